@@ -1,0 +1,231 @@
+-- Searches, counts, sums and tests over a range of numbers, with the laws of a loop that makes them: its end, its stop, its next turn.
+-- All are one fold, `over`, so each law is one citation of the fold's. Assumes nothing.
+use mathlib.Core.Path.{_≡_, refl, sym, ap, _∙_}
+use mathlib.Core.Bool.{Bool, true, false, not, true≢false}
+use Prim.Native.Nat.{ℕ, zero, suc, _+_, _-_, _≤_, _<_}
+use native.Mathlib.Decide.{ℕ-discrete}
+use native.Mathlib.Nat.{add-zero, add-suc, suc-add}
+use native.Mathlib.Numerals.{add-one}
+use native.Mathlib.Omega.{arith}
+use Rattle.laws.specs.Truth.{pick, both}
+
+-- step at each of the n numbers from i on, the last one first
+unfoldable pub over : {A : Type 0} → (ℕ → A → A) → A → ℕ → ℕ → A
+over step end i zero = end
+over step end i (suc n) = step i (over step end (suc i) n)
+
+pub data Lowest : Type 0 where
+  at : ℕ → Lowest
+  nowhere : Lowest
+
+abbrev pub isAt : Lowest → Bool
+isAt (at k) = true
+isAt nowhere = false
+
+-- the lowest of the n numbers from i on that passes the test
+unfoldable pub lowest : (ℕ → Bool) → ℕ → ℕ → Lowest
+unfolding over
+lowest f i n = over (λ k rest. pick (f k) (at k) rest) nowhere i n
+
+-- how many of them pass
+unfoldable pub count : (ℕ → Bool) → ℕ → ℕ → ℕ
+unfolding over
+count f i n = over (λ k rest. pick (f k) (suc rest) rest) 0 i n
+
+-- whether all of them pass
+unfoldable pub all : (ℕ → Bool) → ℕ → ℕ → Bool
+unfolding over
+all f i n = over (λ k rest. both (f k) rest) true i n
+
+-- whether any of them passes
+unfoldable pub any : (ℕ → Bool) → ℕ → ℕ → Bool
+unfolding over
+any f i n = over (λ k rest. pick (f k) true rest) false i n
+
+-- the sum of f at them
+unfoldable pub total : (ℕ → ℕ) → ℕ → ℕ → ℕ
+unfolding over
+total f i n = over (λ k rest. f k + rest) 0 i n
+
+-- ---- the fold
+
+module _ {A : Type 0} (step : ℕ → A → A) (end : A) where
+  pub over-end : (i n : ℕ) → n ≤ i → over step end i (n - i) ≡ end
+  unfolding over
+  over-end i n h = let e : n - i ≡ 0 = omega arith in rw e
+
+  pub over-next : (i n : ℕ) → i < n → over step end i (n - i) ≡ step i (over step end (i + 1) (n - (i + 1)))
+  unfolding over
+  over-next i n h = let e : n - i ≡ suc (n - (i + 1)) = omega arith in rw (e, add-one i)
+
+pub over-cong : {A : Type 0} (f g : ℕ → A → A) (end : A) (i n : ℕ) → ((k : ℕ) → i ≤ k → k < i + n → (r : A) → f k r ≡ g k r)
+    → over f end i n ≡ over g end i n
+unfolding over
+over-cong f g end i zero h = refl
+over-cong f g end i (suc n) h =
+    ap (f i) (over-cong f g end (suc i) n (λ k p q. h k (omega arith) (omega arith))) ∙ h i (omega arith) (omega arith) (over g end (suc i) n)
+
+-- ---- a search
+
+module _ (f : ℕ → Bool) (i n : ℕ) where
+  pub lowest-end : n ≤ i → lowest f i (n - i) ≡ nowhere
+  unfolding lowest
+  lowest-end h = over-end _ nowhere i n h
+
+  pub lowest-stop : i < n → f i ≡ true → lowest f i (n - i) ≡ at i
+  unfolding lowest
+  lowest-stop h e = over-next _ nowhere i n h ∙ rw e refl
+
+  pub lowest-on : i < n → f i ≡ false → lowest f i (n - i) ≡ lowest f (i + 1) (n - (i + 1))
+  unfolding lowest
+  lowest-on h e = over-next _ nowhere i n h ∙ rw e refl
+
+-- tests that agree on the range are found at one place
+pub lowest-cong : (f g : ℕ → Bool) (i n : ℕ) → ((k : ℕ) → i ≤ k → k < i + n → f k ≡ g k) → lowest f i n ≡ lowest g i n
+unfolding lowest
+lowest-cong f g i n h = over-cong _ _ nowhere i n (λ k p q r. ap (λ (t : Bool). pick t (at k) r) (h k p q))
+
+-- nowhere: no number in the range passes
+pub nowhere→ : (f : ℕ → Bool) (i n : ℕ) → lowest f i n ≡ nowhere → (k : ℕ) → i ≤ k → k < i + n → f k ≡ false
+unfolding lowest
+nowhere→ f i zero e k h l = absurd (omega arith)
+nowhere→ f i (suc n) e k h l = go (nowhere→ f (suc i) n) (f i) refl (ℕ-discrete k i)
+  where
+    go : (lowest f (suc i) n ≡ nowhere → (j : ℕ) → suc i ≤ j → j < suc i + n → f j ≡ false) → (b : Bool) → f i ≡ b → Dec (k ≡ i) → f k ≡ false
+    go ih true p d = let z : at i ≡ nowhere = rw p at e in let o : _≡_ {A = ℕ} 0 1 = cc in absurd (omega arith)
+    go ih false p (yes q) = ap f q ∙ p
+    go ih false p (no q) = ih (rw p at e) k (omega arith) (omega arith)
+
+pub →nowhere : (f : ℕ → Bool) (i n : ℕ) → ((k : ℕ) → i ≤ k → k < i + n → f k ≡ false) → lowest f i n ≡ nowhere
+unfolding lowest
+→nowhere f i zero h = refl
+→nowhere f i (suc n) h = rw (h i (omega arith) (omega arith)) (→nowhere f (suc i) n (λ k p q. h k (omega arith) (omega arith)))
+
+-- a place: it lies in the range and passes
+pub at→ : (f : ℕ → Bool) (i n k : ℕ) → lowest f i n ≡ at k → (i ≤ k) × (k < i + n) × (f k ≡ true)
+unfolding lowest
+at→ f i zero k e = let o : _≡_ {A = ℕ} 0 1 = cc in absurd (omega arith)
+at→ f i (suc n) k e = go (at→ f (suc i) n k) (f i) refl
+  where
+    go : (lowest f (suc i) n ≡ at k → (suc i ≤ k) × (k < suc i + n) × (f k ≡ true)) → (b : Bool) → f i ≡ b → (i ≤ k) × (k < i + suc n) × (f k ≡ true)
+    go ih true p =
+        let z : at i ≡ at k = rw p at e in
+        let o : i ≡ k = cc in
+        (omega arith, omega arith, ap f (sym o) ∙ p)
+    go ih false p = let r = ih (rw p at e) in (omega (arith, r .0), omega (arith, r .1), r .2)
+
+-- ---- a count
+
+module _ (f : ℕ → Bool) (i n : ℕ) where
+  pub count-end : n ≤ i → count f i (n - i) ≡ 0
+  unfolding count
+  count-end h = over-end _ 0 i n h
+
+  pub count-stop : i < n → f i ≡ true → count f i (n - i) ≡ suc (count f (i + 1) (n - (i + 1)))
+  unfolding count
+  count-stop h e = over-next _ 0 i n h ∙ rw e refl
+
+  pub count-on : i < n → f i ≡ false → count f i (n - i) ≡ count f (i + 1) (n - (i + 1))
+  unfolding count
+  count-on h e = over-next _ 0 i n h ∙ rw e refl
+
+  pub count-yes : f i ≡ true → count f i (suc n) ≡ suc (count f (suc i) n)
+  unfolding count
+  count-yes e = rw e refl
+
+  pub count-no : f i ≡ false → count f i (suc n) ≡ count f (suc i) n
+  unfolding count
+  count-no e = rw e refl
+
+pub count-cong : (f g : ℕ → Bool) (i n : ℕ) → ((k : ℕ) → i ≤ k → k < i + n → f k ≡ g k) → count f i n ≡ count g i n
+unfolding count
+count-cong f g i n h = over-cong _ _ 0 i n (λ k p q r. ap (λ (t : Bool). pick t (suc r) r) (h k p q))
+
+-- those that pass and those that don't make the range
+pub count-split : (f : ℕ → Bool) (i n : ℕ) → count f i n + count (λ k. not (f k)) i n ≡ n
+unfolding count
+count-split f i zero = refl
+count-split f i (suc n) = go (count-split f (suc i) n) (f i) refl
+  where
+    go : count f (suc i) n + count (λ k. not (f k)) (suc i) n ≡ n → (b : Bool) → f i ≡ b → count f i (suc n) + count (λ k. not (f k)) i (suc n) ≡ suc n
+    go ih true p = omega (arith, count-yes f i n p, count-no (λ k. not (f k)) i n (rw p refl))
+    go ih false p = omega (arith, count-no f i n p, count-yes (λ k. not (f k)) i n (rw p refl))
+
+-- ---- tests of all and of any
+
+module _ (f : ℕ → Bool) (i n : ℕ) where
+  pub all-end : n ≤ i → all f i (n - i) ≡ true
+  unfolding all
+  all-end h = over-end _ true i n h
+
+  pub all-stop : i < n → f i ≡ false → all f i (n - i) ≡ false
+  unfolding all
+  all-stop h e = over-next _ true i n h ∙ rw e refl
+
+  pub all-on : i < n → f i ≡ true → all f i (n - i) ≡ all f (i + 1) (n - (i + 1))
+  unfolding all
+  all-on h e = over-next _ true i n h ∙ rw e refl
+
+  pub any-end : n ≤ i → any f i (n - i) ≡ false
+  unfolding any
+  any-end h = over-end _ false i n h
+
+  pub any-stop : i < n → f i ≡ true → any f i (n - i) ≡ true
+  unfolding any
+  any-stop h e = over-next _ false i n h ∙ rw e refl
+
+  pub any-on : i < n → f i ≡ false → any f i (n - i) ≡ any f (i + 1) (n - (i + 1))
+  unfolding any
+  any-on h e = over-next _ false i n h ∙ rw e refl
+
+pub all-cong : (f g : ℕ → Bool) (i n : ℕ) → ((k : ℕ) → i ≤ k → k < i + n → f k ≡ g k) → all f i n ≡ all g i n
+unfolding all
+all-cong f g i n h = over-cong _ _ true i n (λ k p q r. ap (λ (t : Bool). both t r) (h k p q))
+
+pub any-cong : (f g : ℕ → Bool) (i n : ℕ) → ((k : ℕ) → i ≤ k → k < i + n → f k ≡ g k) → any f i n ≡ any g i n
+unfolding any
+any-cong f g i n h = over-cong _ _ false i n (λ k p q r. ap (λ (t : Bool). pick t true r) (h k p q))
+
+-- all pass: each does
+pub all→ : (f : ℕ → Bool) (i n : ℕ) → all f i n ≡ true → (k : ℕ) → i ≤ k → k < i + n → f k ≡ true
+unfolding all
+all→ f i zero e k h l = absurd (omega arith)
+all→ f i (suc n) e k h l = go (all→ f (suc i) n) (f i) refl (ℕ-discrete k i)
+  where
+    go : (all f (suc i) n ≡ true → (j : ℕ) → suc i ≤ j → j < suc i + n → f j ≡ true) → (b : Bool) → f i ≡ b → Dec (k ≡ i) → f k ≡ true
+    go ih false p d = absurd (true≢false (sym (rw p at e)))
+    go ih true p (yes q) = ap f q ∙ p
+    go ih true p (no q) = ih (rw p at e) k (omega arith) (omega arith)
+
+pub →all : (f : ℕ → Bool) (i n : ℕ) → ((k : ℕ) → i ≤ k → k < i + n → f k ≡ true) → all f i n ≡ true
+unfolding all
+→all f i zero h = refl
+→all f i (suc n) h = rw (h i (omega arith) (omega arith)) (→all f (suc i) n (λ k p q. h k (omega arith) (omega arith)))
+
+-- none passes
+pub none→ : (f : ℕ → Bool) (i n : ℕ) → any f i n ≡ false → (k : ℕ) → i ≤ k → k < i + n → f k ≡ false
+unfolding any
+none→ f i zero e k h l = absurd (omega arith)
+none→ f i (suc n) e k h l = go (none→ f (suc i) n) (f i) refl (ℕ-discrete k i)
+  where
+    go : (any f (suc i) n ≡ false → (j : ℕ) → suc i ≤ j → j < suc i + n → f j ≡ false) → (b : Bool) → f i ≡ b → Dec (k ≡ i) → f k ≡ false
+    go ih true p d = absurd (true≢false (rw p at e))
+    go ih false p (yes q) = ap f q ∙ p
+    go ih false p (no q) = ih (rw p at e) k (omega arith) (omega arith)
+
+pub →none : (f : ℕ → Bool) (i n : ℕ) → ((k : ℕ) → i ≤ k → k < i + n → f k ≡ false) → any f i n ≡ false
+unfolding any
+→none f i zero h = refl
+→none f i (suc n) h = rw (h i (omega arith) (omega arith)) (→none f (suc i) n (λ k p q. h k (omega arith) (omega arith)))
+
+-- ---- a sum
+
+pub total-cong : (f g : ℕ → ℕ) (i n : ℕ) → ((k : ℕ) → i ≤ k → k < i + n → f k ≡ g k) → total f i n ≡ total g i n
+unfolding total
+total-cong f g i n h = over-cong _ _ 0 i n (λ k p q r. ap (λ (x : ℕ). x + r) (h k p q))
+
+-- one number more at the end
+pub total-snoc : (f : ℕ → ℕ) (i n : ℕ) → total f i (suc n) ≡ total f i n + f (i + n)
+unfolding total
+total-snoc f i zero = rw (add-zero i) (omega arith)
+total-snoc f i (suc n) = rw (add-suc i n, ← suc-add i n) (omega (arith, total-snoc f (suc i) n))
