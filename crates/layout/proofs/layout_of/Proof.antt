@@ -1,0 +1,53 @@
+-- `layout::layout_of` meets its contract: the kind's arm gives that kind's layout, at the density's blocks and first data block.
+-- By congruence from what the callees ensure. Assumes nothing.
+use mathlib.Core.Path.{_∙_, sym, ap, ap₂}
+use borrow.Author.Needs.{needs}
+use Rattle.layout.specs.declared.Kind.{Kind}
+use Rattle.layout.specs.Layouts.{layoutOf, s900, s1000}
+use Rattle.layout.proofs.layout_of.Statement.{statement}
+use Rattle.layout.proofs.layout_of.Tie as tie
+
+blocks-of-requires : tie.Need-blocks-of-requires
+blocks-of-requires c κs = search needs
+
+first-of-requires : tie.Need-first-of-requires
+first-of-requires c κs = search needs
+
+enum-told : tie.Need-enum-told
+enum-told c = search needs
+
+s900-layout-requires : tie.Need-s900-layout-requires
+s900-layout-requires c κs = search needs
+
+enum-told-2 : tie.Need-enum-told-2
+enum-told-2 c = search needs
+
+s1000-layout-requires : tie.Need-s1000-layout-requires
+s1000-layout-requires c κs = search needs
+
+returns : tie.Need-returns
+returns c =
+    let d = c .before .before .before .before .before .args .density in
+    c .s900-layout .ensures
+    ∙ ap₂ s900 (c .before .before .before .before .blocks-of .ensures) (c .before .before .before .first-of .ensures)
+    ∙ ap (λ (k : Kind). layoutOf k d) (sym (c .before .enum-told .given .1))
+
+returns-2 : tie.Need-returns-2
+returns-2 c =
+    let d = c .before .before .before .before .before .args .density in
+    c .s1000-layout .ensures
+    ∙ ap₂ s1000 (c .before .before .before .before .blocks-of .ensures) (c .before .before .before .first-of .ensures)
+    ∙ ap (λ (k : Kind). layoutOf k d) (sym (c .before .enum-told2 .given .1))
+
+pub layout-of-spec : {M : Type 1} → statement M
+layout-of-spec =
+    tie.close
+    (tie.spec
+    blocks-of-requires
+    first-of-requires
+    enum-told
+    s900-layout-requires
+    enum-told-2
+    s1000-layout-requires
+    returns
+    returns-2)

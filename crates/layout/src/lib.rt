@@ -1,0 +1,119 @@
+// The four kinds of floppy image, and where things lie on each: one record that all else is written over.
+ghost use mathlib.Core.Path.{_≡_};
+ghost use Rattle.layout.specs.Layouts.{layoutOf, s900, s1000, blocksOf, firstOf};
+
+// The sampler whose disk it is.
+pub enum Kind {
+    S900,
+    S1000,
+}
+
+pub enum Density {
+    Low,
+    High,
+}
+
+// What a kind and a density fix (document 01, "The disk"). Every function and every proof above takes these from a
+// layout; only `layout_of` names them.
+pub struct Layout {
+    // blocks of 1,024 bytes on the image, and the first that holds a file's bytes
+    pub blocks: usize,
+    pub first: usize,
+    // entries of the directory, and the offset of the first
+    pub slots: usize,
+    pub directory: usize,
+    // the map value that ends a chain
+    pub mark: usize,
+    // how many blocks, from block 0 on, must hold the system value in the map, and that value
+    pub system: usize,
+    pub reserved: usize,
+    // a name's length, the range of its bytes on the disk, and whether these are AKAII
+    pub letters: usize,
+    pub low: usize,
+    pub high: usize,
+    pub akaii: bool,
+    // what fills the name's area of 16 bytes: its bytes after the name, but for the last, and the last
+    pub pad: usize,
+    pub last: usize,
+    // the range of a type byte
+    pub least: usize,
+    pub most: usize,
+    // an entry's two identity bytes as a number
+    pub identity: usize,
+}
+
+fn blocks_of(density: Density) -> usize
+    ensures { λ r. ⌜ r ≡ blocksOf density ⌝ }
+{
+    match density {
+        Density::Low => 800,
+        Density::High => 1600,
+    }
+}
+
+fn first_of(density: Density) -> usize
+    ensures { λ r. ⌜ r ≡ firstOf density ⌝ }
+{
+    match density {
+        Density::Low => 4,
+        Density::High => 5,
+    }
+}
+
+fn s900_layout(blocks: usize, first: usize) -> Layout
+    ensures { λ r. ⌜ r ≡ s900 blocks first ⌝ }
+{
+    Layout {
+        blocks: blocks,
+        first: first,
+        slots: 64,
+        directory: 0,
+        mark: 32768,
+        system: 0,
+        reserved: 0,
+        letters: 10,
+        low: 32,
+        high: 126,
+        akaii: false,
+        pad: 0,
+        last: 0,
+        least: 65,
+        most: 90,
+        identity: 0,
+    }
+}
+
+fn s1000_layout(blocks: usize, first: usize) -> Layout
+    ensures { λ r. ⌜ r ≡ s1000 blocks first ⌝ }
+{
+    Layout {
+        blocks: blocks,
+        first: first,
+        slots: 64,
+        directory: 0,
+        mark: 19152,
+        system: first,
+        reserved: 16384,
+        letters: 12,
+        low: 0,
+        high: 40,
+        akaii: true,
+        pad: 32,
+        last: 32,
+        least: 97,
+        most: 122,
+        identity: 768,
+    }
+}
+
+// The layout of a kind and a density.
+pub fn layout_of(kind: Kind, density: Density) -> Layout
+    ensures { λ r. ⌜ r ≡ layoutOf kind density ⌝ }
+{
+    let blocks = blocks_of(density);
+    let first = first_of(density);
+    match kind {
+        Kind::S900 => s900_layout(blocks, first),
+        Kind::S1000 => s1000_layout(blocks, first),
+    }
+}
