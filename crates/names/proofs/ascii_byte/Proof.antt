@@ -1,0 +1,25 @@
+-- `names::ascii_byte` meets its contract: in AKAII a code becomes its byte, else it stays.
+-- By the layout's choice, from what the callees ensure. Assumes nothing.
+use mathlib.Core.Path.{refl, ap, _∙_}
+use borrow.Author.Needs.{needs}
+use Rattle.names.specs.Names.{toAscii}
+use Rattle.names.specs.Akaii.{imageOf}
+use Rattle.names.proofs.ascii_byte.Statement.{statement}
+use Rattle.names.proofs.ascii_byte.Tie as tie
+
+to-ascii-requires : tie.Need-to-ascii-requires
+to-ascii-requires c κs = search needs
+
+image-of-requires : tie.Need-image-of-requires
+image-of-requires c κs = search needs
+
+returns : tie.Need-returns
+unfolding toAscii
+returns c = rw (c .before .before .if1 .taken) (c .image-of .ensures ∙ ap imageOf (c .before .to-ascii .ensures))
+
+returns-2 : tie.Need-returns-2
+unfolding toAscii
+returns-2 c = rw (c .if1 .left) refl
+
+pub ascii-byte-spec : {M : Type 1} → statement M
+ascii-byte-spec = tie.close (tie.spec to-ascii-requires image-of-requires returns returns-2)

@@ -1,0 +1,3 @@
+pub mod Akaii
+pub mod Names
+pub mod NameLaws

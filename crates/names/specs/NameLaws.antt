@@ -1,0 +1,161 @@
+-- A legal name comes back from its area, a legal area from its name, and each is legal where the other is.
+-- Byte by byte, from AKAII's laws where the layout's names are AKAII. Assumes nothing.
+use mathlib.Core.Path.{_≡_, refl, sym, ap, _∙_}
+use mathlib.Core.Bool.{Bool, true, false, true≢false}
+use mathlib.Core.List.{List, [], _∷_, map}
+use Prim.Native.Nat.{ℕ, zero, suc, _+_, _-_, _≤_, _<_}
+use native.Mathlib.Omega.{arith}
+use lib.ListN.{length, take, drop, getD, replicate, length-map, length-append, length-replicate, take-append-drop}
+use lib.Seq.{take-at, drop-at, length-take-le}
+use lib.Dec.{leb, eqb}
+use borrow.Author.Tests.{eqb-true, eq-eqb, leb-true, le-leb}
+use Rattle.laws.specs.Truth.{both-true, true-both}
+use Rattle.laws.specs.Lists.{allOf, same, same-refl, same-true}
+use Rattle.layout.specs.declared.Layout.{Layout}
+use Rattle.layout.specs.Right.{LayoutRight}
+use Rattle.names.specs.declared.Converted.{Converted}
+use Rattle.names.specs.declared.Converted.the-variants.{Byte, NoImage}
+use Rattle.names.specs.Akaii.{akaiiOf, asciiOf, hasImage, imageOf, akaii-back, ascii-back, ascii-some, code-most}
+use Rattle.names.specs.Names.{storedByte, givenByte, toDisk, toAscii, padding, legalName, areaOf, legalArea, nameOf}
+
+-- ---- one byte
+
+image-byte : (w : Converted) → hasImage w ≡ true → w ≡ Byte (imageOf w)
+image-byte (Byte b) e = refl
+image-byte NoImage e = absurd (true≢false (sym e))
+
+-- a byte's image is a legal byte on the disk, and its image is that byte
+pub record ToDisk (l : Layout) (a : ℕ) : Type 0 where
+  pub legal : storedByte l (toDisk l a) ≡ true
+  pub back : toAscii l (toDisk l a) ≡ a
+
+pub record ToAscii (l : Layout) (c : ℕ) : Type 0 where
+  pub legal : givenByte l (toAscii l c) ≡ true
+  pub back : toDisk l (toAscii l c) ≡ c
+
+module _ (l : Layout) (right : LayoutRight l) where
+  to-disk-by : (t : Bool) → l .akaii ≡ t → (a : ℕ) → givenByte l a ≡ true → ToDisk l a
+  unfolding givenByte toDisk toAscii storedByte
+  to-disk-by true t a h =
+      let e : akaiiOf a ≡ Byte (imageOf (akaiiOf a)) = image-byte (akaiiOf a) (rw t at h) in
+      let codes = right .akaii-codes t in
+      let c = imageOf (akaiiOf a) in
+      let most : c ≤ 40 = code-most a c e in
+      record {
+        legal = rw t (true-both (leb (l .low) c) (leb c (l .high)) (le-leb (l .low) c (omega (arith, codes .0))) (le-leb c (l .high) (omega (arith, codes .1))));
+        back = rw t (ap imageOf (akaii-back a c e));
+      }
+  to-disk-by false t a h = record { legal = rw t (rw t at h); back = rw t refl }
+
+  to-ascii-by : (t : Bool) → l .akaii ≡ t → (c : ℕ) → storedByte l c ≡ true → ToAscii l c
+  unfolding givenByte toDisk toAscii storedByte
+  to-ascii-by true t c h =
+      let codes = right .akaii-codes t in
+      let most : c ≤ l .high = leb-true c (l .high) (both-true (leb (l .low) c) (leb c (l .high)) h .1) in
+      let e : asciiOf c ≡ Byte (imageOf (asciiOf c)) = image-byte (asciiOf c) (ascii-some c (omega (arith, codes .1))) in
+      let k : akaiiOf (imageOf (asciiOf c)) ≡ Byte c = ascii-back c (imageOf (asciiOf c)) e in
+      record { legal = rw t (ap hasImage k); back = rw t (ap imageOf k) }
+  to-ascii-by false t c h = record { legal = rw t h; back = rw t refl }
+
+  pub to-disk : (a : ℕ) → givenByte l a ≡ true → ToDisk l a
+  to-disk = to-disk-by (l .akaii) refl
+
+  pub to-ascii : (c : ℕ) → storedByte l c ≡ true → ToAscii l c
+  to-ascii = to-ascii-by (l .akaii) refl
+
+-- ---- all bytes
+
+-- bytes that pass f have images that pass g, and these images' images are the bytes
+module _ (f g : ℕ → Bool) (there back : ℕ → ℕ) where
+  all-there : ((a : ℕ) → f a ≡ true → g (there a) ≡ true) → (xs : List ℕ) → allOf f xs ≡ true → allOf g (map there xs) ≡ true
+  unfolding allOf
+  all-there h [] e = refl
+  all-there h (a ∷ xs) e =
+      let p = both-true (f a) (allOf f xs) e in true-both (g (there a)) (allOf g (map there xs)) (h a (p .0)) (all-there h xs (p .1))
+
+  all-back : ((a : ℕ) → f a ≡ true → back (there a) ≡ a) → (xs : List ℕ) → allOf f xs ≡ true → map back (map there xs) ≡ xs
+  unfolding allOf
+  all-back h [] e = refl
+  all-back h (a ∷ xs) e = let p = both-true (f a) (allOf f xs) e in rw (h a (p .0), all-back h xs (p .1)) refl
+
+-- one of the images
+pub getD-map : (f : ℕ → ℕ) (xs : List ℕ) (i : ℕ) → i < length xs → getD (map f xs) i 0 ≡ f (getD xs i 0)
+getD-map f [] i h = absurd (omega arith)
+getD-map f (x ∷ xs) zero h = refl
+getD-map f (x ∷ xs) (suc i) h = getD-map f xs i (omega arith)
+
+-- ---- names and areas
+
+pub length-padding : (l : Layout) → LayoutRight l → l .letters + length (padding l) ≡ 16
+unfolding padding
+length-padding l right =
+    let few = right .letters-few in
+    ap (λ (n : ℕ). l .letters + n) (length-append (replicate (15 - l .letters) (l .pad)) (l .last ∷ []))
+    ∙ omega (arith, length-replicate {A = ℕ} (15 - l .letters) (l .pad))
+
+module _ (l : Layout) (right : LayoutRight l) where
+  -- the parts of a legal name
+  pub name-length : (name : List ℕ) → legalName l name ≡ true → length name ≡ l .letters
+  unfolding legalName
+  name-length name h = eqb-true (length name) (l .letters) (both-true (eqb (length name) (l .letters)) (allOf (givenByte l) name) h .0)
+
+  name-bytes : (name : List ℕ) → legalName l name ≡ true → allOf (givenByte l) name ≡ true
+  unfolding legalName
+  name-bytes name h = both-true (eqb (length name) (l .letters)) (allOf (givenByte l) name) h .1
+
+  module _ (name : List ℕ) (legal : legalName l name ≡ true) where
+    front : take (l .letters) (areaOf l name) ≡ map (toDisk l) name
+    unfolding areaOf
+    front = take-at (map (toDisk l) name) (padding l) (l .letters) (length-map name (toDisk l) ∙ name-length name legal)
+
+    rest : drop (l .letters) (areaOf l name) ≡ padding l
+    unfolding areaOf
+    rest = drop-at (map (toDisk l) name) (padding l) (l .letters) (length-map name (toDisk l) ∙ name-length name legal)
+
+    pub length-area : length (areaOf l name) ≡ 16
+    unfolding areaOf
+    length-area =
+        length-append (map (toDisk l) name) (padding l) ∙ omega (arith, length-map name (toDisk l), name-length name legal, length-padding l right)
+
+    -- a legal name's area is legal
+    pub area-legal : legalArea l (areaOf l name) ≡ true
+    unfolding legalArea
+    area-legal =
+        rw (front, rest)
+        (true-both (allOf (storedByte l) (map (toDisk l) name)) (same (padding l) (padding l))
+        (all-there (givenByte l) (storedByte l) (toDisk l) (toAscii l) (λ a h. to-disk l right a h .legal) name (name-bytes name legal)) (same-refl (padding l)))
+
+    -- and holds the name
+    pub name-back : nameOf l (areaOf l name) ≡ name
+    unfolding nameOf
+    name-back = rw front (all-back (givenByte l) (storedByte l) (toDisk l) (toAscii l) (λ a h. to-disk l right a h .back) name (name-bytes name legal))
+
+  -- a name's bytes in its area
+  pub length-front : (area : List ℕ) → length area ≡ 16 → length (take (l .letters) area) ≡ l .letters
+  length-front area n = length-take-le (l .letters) area (omega (arith, right .letters-few))
+
+  pub length-name : (area : List ℕ) → length area ≡ 16 → length (nameOf l area) ≡ l .letters
+  unfolding nameOf
+  length-name area n = length-map (take (l .letters) area) (toAscii l) ∙ length-front area n
+
+  module _ (area : List ℕ) (legal : legalArea l area ≡ true) where
+    stored : (allOf (storedByte l) (take (l .letters) area) ≡ true) × (drop (l .letters) area ≡ padding l)
+    unfolding legalArea
+    stored =
+        let p = both-true (allOf (storedByte l) (take (l .letters) area)) (same (drop (l .letters) area) (padding l)) legal in
+        (p .0, same-true (drop (l .letters) area) (padding l) (p .1))
+
+    -- a legal area is its name's
+    pub area-back : areaOf l (nameOf l area) ≡ area
+    unfolding areaOf nameOf
+    area-back =
+        rw (all-back (storedByte l) (givenByte l) (toAscii l) (toDisk l) (λ c h. to-ascii l right c h .back) (take (l .letters) area) (stored .0), ← stored .1)
+        (take-append-drop (l .letters) area)
+
+    -- and its name is legal
+    pub name-legal : length area ≡ 16 → legalName l (nameOf l area) ≡ true
+    unfolding legalName nameOf
+    name-legal n =
+        true-both (eqb (length (map (toAscii l) (take (l .letters) area))) (l .letters)) (allOf (givenByte l) (map (toAscii l) (take (l .letters) area)))
+        (eq-eqb (length (map (toAscii l) (take (l .letters) area))) (l .letters) (length-name area n))
+        (all-there (storedByte l) (givenByte l) (toAscii l) (toDisk l) (λ c h. to-ascii l right c h .legal) (take (l .letters) area) (stored .0))
