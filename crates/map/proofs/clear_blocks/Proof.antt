@@ -1,0 +1,68 @@
+-- `map::clear_blocks` meets its contract: freeing what remains of the blocks makes what freeing all of them makes.
+-- Each turn sets one map value to 0, as the definition does at each block. Assumes nothing.
+use mathlib.Core.Path.{_≡_, refl, sym, ap, _∙_}
+use Prim.Native.Nat.{_-_, _≤_}
+use native.Mathlib.Omega.{arith}
+use borrow.Author.Needs.{needs}
+use lib.ListN.{length, drop, getD}
+use Rattle.map.specs.Map.{setMap, freeAll}
+use Rattle.map.specs.Linking.{length-set-map, free-all-end, free-all-next}
+use Rattle.map.proofs.clear_blocks.Statement.{statement}
+use Rattle.map.proofs.clear_blocks.Tie as tie
+
+abbrev Inv-loop : tie.InvT-loop
+Inv-loop image₀ freed end k₀ image k = (k ≤ length freed) × (length image ≡ length image₀) × (freeAll image (drop k freed) ≡ freeAll image₀ freed)
+
+abbrev μ-loop : tie.MeasureT-loop
+μ-loop image₀ freed end k₀ image k = length freed - k
+
+set-map-requires : tie.Need-set-map-requires Inv-loop μ-loop
+set-map-requires c κs = search needs
+
+add-k : tie.Need-add-k Inv-loop μ-loop
+add-k c = search needs
+
+loop-less : tie.Need-loop-less Inv-loop μ-loop
+loop-less c = search needs
+
+same-length : tie.Need-same-length Inv-loop μ-loop
+same-length c = search needs
+
+loop-holds : tie.Need-loop-holds Inv-loop μ-loop
+loop-holds c = (omega arith, refl, refl)
+
+block-of-requires : tie.Need-block-of-requires Inv-loop μ-loop
+block-of-requires c κs = (omega arith, c .before .before .before .before .before .pre .1)
+
+loop-again : tie.Need-loop-again Inv-loop μ-loop
+loop-again c =
+    let b = c .before .before .before in
+    let l = b .before .before .before .loop in
+    let a = b .before .before .before .before .before .before .args in
+    let e : c .before .before .set-map .last .0 ≡ setMap (l .image) (getD (a .freed .now) (l .k) 0) 0 =
+    rw (← b .block-of .ensures .0) (c .before .before .set-map .ensures) in (
+      omega arith,
+      ap length e ∙ length-set-map (l .image) _ _ ∙ l .inv .1,
+      rw e (sym (free-all-next (l .image) (a .freed .now) (l .k) (omega arith)) ∙ l .inv .2),
+    )
+
+returns : tie.Need-returns Inv-loop μ-loop
+returns c =
+    let l = c .before .loop in
+    let a = c .before .before .before .before .args in
+    sym (free-all-end (l .image) (a .freed .now) (l .k) (omega arith)) ∙ l .inv .2
+
+pub clear-blocks-spec : {M : Type 1} → statement M
+clear-blocks-spec =
+    tie.close
+    (tie.spec
+    Inv-loop
+    μ-loop
+    loop-holds
+    block-of-requires
+    set-map-requires
+    add-k
+    loop-less
+    loop-again
+    same-length
+    returns)

@@ -1,0 +1,124 @@
+-- The map (document 01, "The disk"): map values, links, chains and their faults, free blocks, and what changes of a map.
+-- Chains and walks are over any map m : block → value. Assumes nothing.
+use mathlib.Core.Path.{_≡_}
+use mathlib.Core.Bool.{Bool, true, false}
+use mathlib.Core.List.{List, [], _∷_}
+use Prim.Native.Nat.{ℕ, zero, suc, _-_, _≤_, _<_}
+use lib.Dec.{leb, ltb, eqb}
+use lib.ListN.{length, take, getD, set}
+use Rattle.laws.specs.Truth.{pick, both}
+use Rattle.laws.specs.Scan.{over, count}
+use Rattle.laws.specs.Splice.{splice}
+use Rattle.layout.specs.declared.Layout.{Layout}
+use Rattle.layout.specs.Layouts.{mapOffset}
+use Rattle.blocks.specs.Numbers.{number, digits}
+use Rattle.map.specs.declared.Walk.{Walk}
+use Rattle.map.specs.declared.Walk.the-variants.{Whole, Bad, Cut}
+use Rattle.map.specs.declared.Blocks.{Blocks}
+
+-- The map value of a block.
+abbrev pub mapAt : (ℕ → ℕ) → ℕ → ℕ
+mapAt b block = number 2 b (mapOffset block)
+
+-- All of the layout's map lies in these bytes.
+abbrev pub Fits : Layout → List ℕ → Type 0
+Fits l img = mapOffset (l .blocks) ≤ length img
+
+-- A data block: one from the first data block to the last block. As a map value it is a link.
+abbrev pub Data : Layout → ℕ → Type 0
+Data l block = (l .first ≤ block) × (block < l .blocks)
+
+unfoldable pub isLink : Layout → ℕ → Bool
+isLink l v = both (leb (l .first) v) (ltb v (l .blocks))
+
+-- ---- chains
+
+-- The chain from a block on: the block and the `links` blocks after it, each named by the map value of the one before.
+unfoldable pub chain : (ℕ → ℕ) → ℕ → ℕ → List ℕ
+chain m zero block = block ∷ []
+chain m (suc links) block = block ∷ chain m links (m block)
+
+-- The rule: all of its blocks lie in the data area, and the last holds the end mark.
+unfoldable pub Chained : Layout → (ℕ → ℕ) → ℕ → ℕ → Type 0
+Chained l m zero block = Data l block × (m block ≡ l .mark)
+Chained l m (suc links) block = Data l block × Chained l m links (m block)
+
+-- The same walked from the start to the first fault. A start or a value that is no link is Bad; the end mark too early, and
+-- anything else at the last block, is Cut.
+unfoldable pub walk : Layout → (ℕ → ℕ) → ℕ → ℕ → Walk
+unfolding isLink
+walk l m zero block = pick (isLink l block) (pick (eqb (m block) (l .mark)) Whole Cut) Bad
+walk l m (suc links) block = pick (isLink l block) (pick (eqb (m block) (l .mark)) Cut (walk l m links (m block))) Bad
+
+-- The refusal of each fault.
+abbrev pub faultOf : Walk → ℕ
+faultOf Whole = 0
+faultOf Bad = 6
+faultOf Cut = 7
+
+abbrev pub isWhole : Walk → Bool
+isWhole Whole = true
+isWhole Bad = false
+isWhole Cut = false
+
+-- What a function that looks for the n-th block of a chain answers.
+pub record Nth (l : Layout) (m : ℕ → ℕ) (links start n r : ℕ) : Type 0 where
+  pub value : r ≡ getD (chain m links start) n 0
+  pub inside : Data l r
+
+-- ---- free blocks
+
+-- The free ones of the n blocks from i on, in rising order: their map value is 0.
+unfoldable pub freeFrom : (ℕ → ℕ) → ℕ → ℕ → List ℕ
+unfolding over
+freeFrom m i n = over (λ k rest. pick (eqb (m k) 0) (k ∷ rest) rest) [] i n
+
+-- The free blocks of the data area, and their number.
+unfoldable pub freeBlocks : Layout → (ℕ → ℕ) → List ℕ
+unfolding freeFrom
+freeBlocks l m = freeFrom m (l .first) (l .blocks - l .first)
+
+unfoldable pub freeCount : Layout → (ℕ → ℕ) → ℕ
+unfolding count
+freeCount l m = count (λ k. eqb (m k) 0) (l .first) (l .blocks - l .first)
+
+-- What a function that collects blocks answers: these are the first of its list.
+pub record Collected (blocks : List ℕ) (r : Blocks) : Type 0 where
+  pub count : r .count ≡ length blocks
+  pub list : take (r .count) (r .list) ≡ blocks
+
+-- ---- changes
+
+-- An image with another map value at a block.
+unfoldable pub setMap : List ℕ → ℕ → ℕ → List ℕ
+unfolding digits
+setMap img block v = splice img (mapOffset block) (digits 2 v)
+
+-- The first of some blocks, or the mark where there is none.
+unfoldable pub firstOr : List ℕ → ℕ → ℕ
+firstOr [] mark = mark
+firstOr (b ∷ bs) mark = b
+
+-- An image with blocks chained in order, the last one at the end mark.
+unfoldable pub linkBlocks : List ℕ → List ℕ → ℕ → List ℕ
+unfolding setMap firstOr
+linkBlocks img [] mark = img
+linkBlocks img (b ∷ bs) mark = linkBlocks (setMap img b (firstOr bs mark)) bs mark
+
+-- An image with blocks freed.
+unfoldable pub freeAll : List ℕ → List ℕ → List ℕ
+unfolding setMap
+freeAll img [] = img
+freeAll img (b ∷ bs) = freeAll (setMap img b 0) bs
+
+-- ---- marks, one for each block
+
+-- Whether one of the blocks is marked.
+unfoldable pub touched : List Bool → List ℕ → Bool
+touched ms [] = false
+touched ms (b ∷ bs) = pick (getD ms b false) true (touched ms bs)
+
+-- The marks with these blocks marked too.
+unfoldable pub marked : List Bool → List ℕ → List Bool
+marked ms [] = ms
+marked ms (b ∷ bs) = marked (set ms b true) bs
