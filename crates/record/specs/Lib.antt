@@ -1,0 +1,6 @@
+pub mod Record
+pub mod Granted
+pub mod Update
+pub mod Step
+pub mod Others
+pub mod Download

@@ -1,0 +1,182 @@
+-- Demand 3's plain record (document 01, "Calls on an accepted disk"): what each call answers and what it changes, judged on names,
+-- types and contents alone. It is fed a call's arguments and never the image. Assumes nothing.
+use mathlib.Core.Bool.{Bool, true, false, not}
+use mathlib.Core.List.{List, [], _++_}
+use mathlib.Core.Option.{Option, none, some}
+use Prim.Native.Nat.{ℕ, _+_, _-_, min}
+use lib.ListN.{length, drop}
+use lib.Dec.{ltb, eqb}
+use Rattle.laws.specs.Truth.{pick, both}
+use Rattle.laws.specs.Scan.{Lowest, at, nowhere, lowest, count, total}
+use Rattle.laws.specs.Lists.{same}
+use Rattle.laws.specs.Splice.{part}
+use Rattle.layout.specs.declared.Kind.{Kind}
+use Rattle.layout.specs.declared.Density.{Density}
+use Rattle.layout.specs.declared.Layout.{Layout}
+use Rattle.layout.specs.Layouts.{layoutOf}
+use Rattle.blocks.specs.Blocks.{blocksFor}
+use Rattle.names.specs.Names.{legalName, legalType}
+use Rattle.view.specs.Disk.{File}
+use Rattle.view.specs.Counting.{takes}
+
+-- What stays over all calls: kind and density, and the layout that they fix.
+pub record Shape : Type 0 where
+  pub kind : Kind
+  pub density : Density
+  pub layout : Layout
+
+abbrev pub shapeOf : Kind → Density → Shape
+shapeOf k d = record { kind = k; density = d; layout = layoutOf k d }
+
+-- The record: for each slot nothing, or a name in ASCII, a type and a content.
+abbrev pub Files : Type 0
+Files = ℕ → Option File
+
+-- The calls with their arguments; a page lends its output.
+pub data Call : Type 0 where
+  check : Call
+  list : ℕ → Call
+  find : List ℕ → Call
+  page : ℕ → ℕ → List ℕ → Call
+  put : List ℕ → ℕ → List ℕ → Call
+  remove : List ℕ → Call
+
+pub data Answer : Type 0 where
+  -- the check's: kind, density, number of files, number of free blocks
+  accepted : Kind → Density → ℕ → ℕ → Answer
+  -- list's: name in ASCII, type, length
+  entry : List ℕ → ℕ → ℕ → Answer
+  -- find's and put's
+  slotIs : ℕ → Answer
+  -- page's: how many bytes, and whether the file's end is reached
+  paged : ℕ → Bool → Answer
+  -- remove's
+  done : Answer
+  -- a refusal's number and place
+  refused : ℕ → ℕ → Answer
+
+-- What a call comes to: its answer, the lent output afterwards, and the next state, be it the record's files or an image.
+pub record Outcome (S : Type 0) : Type 0 where
+  pub answer : Answer
+  pub output : List ℕ
+  pub state : S
+
+abbrev pub answered : {S : Type 0} → S → Answer → Outcome S
+answered s a = record { answer = a; output = []; state = s }
+
+-- ---- a call on a name: refused by number and place, or granted a slot
+
+pub data Judged : Type 0 where
+  refuse : ℕ → ℕ → Judged
+  grant : ℕ → Judged
+
+abbrev pub refuseIf : Bool → ℕ → Judged → Judged
+refuseIf true n next = refuse n 0
+refuseIf false n next = next
+
+-- refused at the slot found
+abbrev pub refuseAt : ℕ → Lowest → Judged → Judged
+refuseAt n (at s) next = refuse n s
+refuseAt n nowhere next = next
+
+-- refused where no slot is found
+abbrev pub orRefuse : ℕ → Lowest → (ℕ → Judged) → Judged
+orRefuse n (at s) next = next s
+orRefuse n nowhere next = refuse n 0
+
+abbrev pub named : List ℕ → Option File → Bool
+named name none = false
+named name (some f) = same name (f .name)
+
+abbrev pub isEmpty : Option File → Bool
+isEmpty none = true
+isEmpty (some f) = false
+
+-- the files with another, or none, in slot s
+unfoldable pub replaced : Files → ℕ → Option File → Files
+replaced files s f t = pick (eqb t s) f (files t)
+
+module _ (l : Layout) (files : Files) where
+  -- the slot that has the name
+  unfoldable pub slotOf : List ℕ → Lowest
+  unfolding lowest same
+  slotOf name = lowest (λ s. named name (files s)) 0 (l .slots)
+
+  -- the lowest empty slot
+  unfoldable pub emptySlot : Lowest
+  unfolding lowest
+  emptySlot = lowest (λ s. isEmpty (files s)) 0 (l .slots)
+
+  unfoldable pub fileCount : ℕ
+  unfolding count
+  fileCount = count (λ s. not (isEmpty (files s))) 0 (l .slots)
+
+  -- free blocks: the data blocks less those that the contents need
+  unfoldable pub free : ℕ
+  unfolding total
+  free = l .blocks - l .first - total (λ s. takes (files s)) 0 (l .slots)
+
+  -- find and remove: 11, 10
+  unfoldable pub judgeName : List ℕ → Judged
+  unfolding legalName slotOf
+  judgeName name = refuseIf (not (legalName l name)) 11 (orRefuse 10 (slotOf name) (λ s. grant s))
+
+  -- put: 11, 13, 12, 14, 15, 16
+  unfoldable pub judgePut : List ℕ → ℕ → List ℕ → Judged
+  unfolding legalName legalType slotOf emptySlot free
+  judgePut name type content =
+      refuseIf (not (both (legalName l name) (legalType l type))) 11
+      (refuseIf (eqb (length content) 0) 13
+      (refuseAt 12 (slotOf name)
+      (orRefuse 14 emptySlot (λ s.
+      refuseIf (ltb free (blocksFor (length content))) 15
+      (refuseIf (ltb 16777215 (length content)) 16
+      (grant s))))))
+
+  -- the file of a slot, none above the last
+  unfoldable pub fileAt : ℕ → Option File
+  fileAt s = pick (ltb s (l .slots)) (files s) none
+
+-- ---- what a judged call comes to
+
+abbrev pub finding : {S : Type 0} → S → Judged → Outcome S
+finding state (refuse n p) = answered state (refused n p)
+finding state (grant s) = answered state (slotIs s)
+
+abbrev pub putting : {S : Type 0} → S → (ℕ → S) → Judged → Outcome S
+putting state after (refuse n p) = answered state (refused n p)
+putting state after (grant s) = answered (after s) (slotIs s)
+
+abbrev pub removing : {S : Type 0} → S → (ℕ → S) → Judged → Outcome S
+removing state after (refuse n p) = answered state (refused n p)
+removing state after (grant s) = answered (after s) done
+
+-- list: 10
+abbrev pub listing : {S : Type 0} → S → Option File → Outcome S
+listing state none = answered state (refused 10 0)
+listing state (some f) = answered state (entry (f .name) (f .type) (length (f .content)))
+
+-- a page: the smaller of the output's length and what is left; the end is reached exactly if offset plus count is the length
+abbrev pub pageOf : {S : Type 0} → S → List ℕ → ℕ → List ℕ → Outcome S
+pageOf state content offset out =
+    let n = min (length out) (length content - offset) in
+    record { answer = paged n (eqb (offset + n) (length content)); output = part content offset n ++ drop n out; state = state }
+
+-- page: 10, 17; refused, the output stays as it was lent
+abbrev pub paging : {S : Type 0} → S → Option File → ℕ → List ℕ → Outcome S
+paging state none offset out = record { answer = refused 10 0; output = out; state = state }
+paging state (some f) offset out =
+    pick (ltb (length (f .content)) offset) (record { answer = refused 17 0; output = out; state = state }) (pageOf state (f .content) offset out)
+
+-- ---- one call on the record
+
+unfoldable pub stepFiles : Shape → Files → Call → Outcome Files
+unfolding judgeName judgePut fileAt fileCount free replaced part
+stepFiles shape files check =
+    answered files (accepted (shape .kind) (shape .density) (fileCount (shape .layout) files) (free (shape .layout) files))
+stepFiles shape files (list s) = listing files (fileAt (shape .layout) files s)
+stepFiles shape files (find name) = finding files (judgeName (shape .layout) files name)
+stepFiles shape files (page s offset out) = paging files (fileAt (shape .layout) files s) offset out
+stepFiles shape files (put name type content) =
+    putting files (λ s. replaced files s (some (record { name = name; type = type; content = content }))) (judgePut (shape .layout) files name type content)
+stepFiles shape files (remove name) = removing files (λ s. replaced files s none) (judgeName (shape .layout) files name)
