@@ -1,0 +1,93 @@
+-- The check over a length and a reader of bytes: refusals 1 to 9 in document 01's order ("The numbers given back"), and the meaning of
+-- every public call on any bytes: the check first. Assumes nothing.
+use mathlib.Core.Bool.{Bool}
+use mathlib.Core.List.{List, []}
+use mathlib.Core.Option.{Option, none, some}
+use Prim.Native.Nat.{ℕ, _*_}
+use lib.Dec.{eqb}
+use lib.ListN.{length}
+use Rattle.laws.specs.Truth.{pick}
+use Rattle.laws.specs.Scan.{all, count}
+use Rattle.laws.specs.Reader.{bytes}
+use Rattle.layout.specs.declared.Kind.{Kind}
+use Rattle.layout.specs.declared.Kind.the-variants.{S900, S1000}
+use Rattle.layout.specs.declared.Density.{Density}
+use Rattle.layout.specs.declared.Density.the-variants.{Low, High}
+use Rattle.layout.specs.declared.Layout.{Layout}
+use Rattle.layout.specs.Layouts.{layoutOf, blocksOf}
+use Rattle.map.specs.Map.{mapAt, freeCount}
+use Rattle.view.specs.Disk.{View, used}
+use Rattle.view.specs.Rules.{Ruled, pass, fail, rules}
+use Rattle.image.specs.Image.{entryAt, identityAt, viewOf}
+use Rattle.record.specs.Record.{shapeOf, Call, check, list, find, page, put, remove, Answer, accepted, refused, Outcome}
+use Rattle.record.specs.Step.{stepImage}
+use Rattle.rules.specs.declared.Checked.{Checked}
+use Rattle.rules.specs.declared.Checked.the-variants.{Accepted, Refused}
+
+-- what comes next of a value, or the refusal where there is none
+abbrev pub orRefused : {A : Type 0} → Option A → ℕ → (A → Checked) → Checked
+orRefused none number next = Refused number 0
+orRefused (some x) number next = next x
+
+-- 1: the image's length is one of the two.
+unfoldable pub densityOf : ℕ → Option Density
+densityOf length = pick (eqb length (1024 * blocksOf Low)) (some Low) (pick (eqb length (1024 * blocksOf High)) (some High) none)
+
+-- 2: every slot, empty ones too, has the kind's identity.
+unfoldable pub hasKind : Kind → Density → (ℕ → ℕ) → Bool
+unfolding all
+hasKind k d b = all (λ s. eqb (identityAt (layoutOf k d) b s) (layoutOf k d .identity)) 0 (layoutOf k d .slots)
+
+unfoldable pub kindOf : Density → (ℕ → ℕ) → Option Kind
+unfolding hasKind
+kindOf d b = pick (hasKind S900 d b) (some S900) (pick (hasKind S1000 d b) (some S1000) none)
+
+-- the number of used slots
+unfoldable pub usedCount : Layout → View → ℕ
+unfolding count used
+usedCount l v = count (λ s. used (v .entry s)) 0 (l .slots)
+
+-- 3 to 9: the disk rules of that kind and density.
+abbrev pub orFault : Ruled → Checked → Checked
+orFault pass next = next
+orFault (fail number place) next = Refused number place
+
+unfoldable pub checkAs : Kind → Density → (ℕ → ℕ) → Checked
+unfolding rules usedCount freeCount entryAt
+checkAs k d b =
+    let l = layoutOf k d in
+    orFault (rules l (viewOf l b)) (Accepted k d (usedCount l (viewOf l b)) (freeCount l (mapAt b)))
+
+unfoldable pub checkHead : ℕ → (ℕ → ℕ) → Checked
+unfolding densityOf kindOf checkAs
+checkHead length b = orRefused (densityOf length) 1 (λ d. orRefused (kindOf d b) 2 (λ k. checkAs k d b))
+
+-- The check of an image.
+abbrev pub checkOf : List ℕ → Checked
+checkOf img = checkHead (length img) (bytes img)
+
+-- Its number, place and values.
+abbrev pub answerOf : Checked → Answer
+answerOf (Accepted k d files free) = accepted k d files free
+answerOf (Refused number place) = refused number place
+
+-- ---- every public call
+
+-- The output that a call lends.
+abbrev pub lent : Call → List ℕ
+lent check = []
+lent (list s) = []
+lent (find name) = []
+lent (page s offset out) = out
+lent (put name type content) = []
+lent (remove name) = []
+
+abbrev pub callBy : Checked → List ℕ → Call → Outcome (List ℕ)
+callBy (Refused number place) img c = record { answer = refused number place; output = lent c; state = img }
+callBy (Accepted k d files free) img c = stepImage (shapeOf k d) img c
+
+-- A call on any bytes: a refused image answers the check's refusal and keeps image and output; on an accepted one the answer and the
+-- output are the record's.
+unfoldable pub callOf : List ℕ → Call → Outcome (List ℕ)
+unfolding checkHead stepImage
+callOf img c = callBy (checkOf img) img c

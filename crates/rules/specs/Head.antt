@@ -1,0 +1,101 @@
+-- The check reads the length and, of the bytes, the directory and the map: the first 5,120 bytes and the length decide it.
+-- Readers that agree there show the same identities, entries and map values. Assumes nothing.
+use mathlib.Core.Path.{_≡_, refl, sym, ap, ap₂, _∙_}
+use mathlib.Core.Bool.{Bool}
+use mathlib.Core.List.{List}
+use mathlib.Core.Option.{Option, none, some}
+use Prim.Native.Nat.{ℕ, _+_, _-_, _≤_, _<_}
+use native.Mathlib.Omega.{arith}
+use lib.Dec.{eqb}
+use lib.ListN.{length, take}
+use lib.Seq.{getD-take}
+use Rattle.laws.specs.Truth.{pick}
+use Rattle.laws.specs.Scan.{all-cong, count-cong}
+use Rattle.laws.specs.Reader.{bytes}
+use Rattle.layout.specs.declared.Kind.{Kind}
+use Rattle.layout.specs.declared.Kind.the-variants.{S900, S1000}
+use Rattle.layout.specs.declared.Density.{Density}
+use Rattle.layout.specs.declared.Density.the-variants.{Low, High}
+use Rattle.layout.specs.declared.Layout.{Layout}
+use Rattle.layout.specs.Layouts.{layoutOf, blockOffset, mapOffset, slotOffset}
+use Rattle.layout.specs.Right.{LayoutRight, layout-right}
+use Rattle.blocks.specs.Numbers.{number-cong}
+use Rattle.map.specs.Map.{mapAt, freeCount}
+use Rattle.view.specs.Disk.{used}
+use Rattle.view.specs.Head.{same-rules}
+use Rattle.image.specs.Image.{identityAt, viewOf}
+use Rattle.image.specs.Entries.{entry-cong}
+use Rattle.rules.specs.Check.{orRefused, densityOf, hasKind, kindOf, usedCount, checkAs, checkHead, checkOf}
+
+-- every layout's system blocks lie in the head
+head-holds : (k : Kind) (d : Density) → blockOffset (layoutOf k d .first) ≤ 5120
+head-holds S900 Low = omega arith
+head-holds S900 High = omega arith
+head-holds S1000 Low = omega arith
+head-holds S1000 High = omega arith
+
+module _ (b c : ℕ → ℕ) (agree : (i : ℕ) → i < 5120 → c i ≡ b i) where
+  -- of a layout whose directory and map lie in the head
+  module _ (l : Layout) (right : LayoutRight l) (head : blockOffset (l .first) ≤ 5120) where
+    maps : (k : ℕ) → k < l .blocks → mapAt c k ≡ mapAt b k
+    maps k h = number-cong 2 b c (mapOffset k) (λ i p q. agree i (omega (arith, right .map-low)))
+
+    entries : (s : ℕ) → s < l .slots → viewOf l c .entry s ≡ viewOf l b .entry s
+    entries s h = entry-cong b c (slotOffset l s) (λ i p q. agree i (omega (arith, right .directory-low)))
+
+    identities : (s : ℕ) → s < l .slots → identityAt l c s ≡ identityAt l b s
+    identities s h = number-cong 2 b c (slotOffset l s + 22) (λ i p q. agree i (omega (arith, right .directory-low)))
+
+    same-used : usedCount l (viewOf l c) ≡ usedCount l (viewOf l b)
+    unfolding usedCount
+    same-used =
+        count-cong (λ s. used (viewOf l c .entry s)) (λ s. used (viewOf l b .entry s)) 0 (l .slots) (λ s p q. ap used (entries s (omega arith)))
+
+    same-free : freeCount l (mapAt c) ≡ freeCount l (mapAt b)
+    unfolding freeCount
+    same-free =
+        count-cong (λ k. eqb (mapAt c k) 0) (λ k. eqb (mapAt b k) 0) (l .first) (l .blocks - l .first)
+        (λ k p q. ap (λ (x : ℕ). eqb x 0) (maps k (omega (arith, right .data-some))))
+
+  same-as : (k : Kind) (d : Density) → checkAs k d c ≡ checkAs k d b
+  unfolding checkAs
+  same-as k d =
+      let l = layoutOf k d in
+      let right = layout-right k d in
+      let head = head-holds k d in
+      rw (
+        same-rules l right (viewOf l b) (viewOf l c) (maps l right head) (entries l right head),
+        same-used l right head,
+        same-free l right head,
+      ) refl
+
+  same-has : (k : Kind) (d : Density) → hasKind k d c ≡ hasKind k d b
+  unfolding hasKind
+  same-has k d =
+      let l = layoutOf k d in
+      all-cong (λ s. eqb (identityAt l c s) (l .identity)) (λ s. eqb (identityAt l b s) (l .identity)) 0 (l .slots)
+      (λ s p q. ap (λ (x : ℕ). eqb x (l .identity)) (identities l (layout-right k d) (head-holds k d) s (omega arith)))
+
+  same-kind : (d : Density) → kindOf d c ≡ kindOf d b
+  unfolding kindOf
+  same-kind d = ap₂ (λ (t u : Bool). pick t (some S900) (pick u (some S1000) none)) (same-has S900 d) (same-has S1000 d)
+
+  kind-by : (k : Option Kind) (d : Density) → orRefused k 2 (λ j. checkAs j d c) ≡ orRefused k 2 (λ j. checkAs j d b)
+  kind-by none d = refl
+  kind-by (some k) d = same-as k d
+
+  density-by : (d : Option Density) → orRefused d 1 (λ x. orRefused (kindOf x c) 2 (λ k. checkAs k x c)) ≡ orRefused d 1 (λ x. orRefused (kindOf x b) 2 (λ k. checkAs k x b))
+  density-by none = refl
+  density-by (some d) = ap (λ (k : Option Kind). orRefused k 2 (λ j. checkAs j d c)) (same-kind d) ∙ kind-by (kindOf d b) d
+
+  pub same-check : (n : ℕ) → checkHead n c ≡ checkHead n b
+  unfolding checkHead
+  same-check n = density-by (densityOf n)
+
+-- The first 5,120 bytes suffice, as the listing program keeps them.
+pub head-check : (img : List ℕ) → checkHead (length img) (bytes (take 5120 img)) ≡ checkOf img
+head-check img = same-check (bytes img) (bytes (take 5120 img)) (λ i h. getD-take 5120 img i 0 (omega arith)) (length img)
+
+-- Images of one length with the same head are checked alike.
+pub head-decides : (x y : List ℕ) → length x ≡ length y → take 5120 x ≡ take 5120 y → checkOf x ≡ checkOf y
+head-decides x y n h = sym (head-check x) ∙ ap₂ (λ (k : ℕ) (z : List ℕ). checkHead k (bytes z)) n h ∙ head-check y

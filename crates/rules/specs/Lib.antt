@@ -1,0 +1,4 @@
+pub mod Check
+pub mod Accepted
+pub mod Head
+pub mod Demand
