@@ -7,6 +7,8 @@ use native.Mathlib.Decide.{ℕ-discrete}
 use native.Mathlib.Nat.{add-zero, add-suc, suc-add}
 use native.Mathlib.Numerals.{add-one}
 use native.Mathlib.Omega.{arith}
+use Rattle.laws.specs.declared.Lowest.{Lowest}
+use Rattle.laws.specs.declared.Lowest.the-variants.{At, Nowhere}
 use Rattle.laws.specs.Truth.{pick, both}
 
 -- step at each of the n numbers from i on, the last one first
@@ -14,18 +16,14 @@ unfoldable pub over : {A : Type 0} → (ℕ → A → A) → A → ℕ → ℕ �
 over step end i zero = end
 over step end i (suc n) = step i (over step end (suc i) n)
 
-pub data Lowest : Type 0 where
-  at : ℕ → Lowest
-  nowhere : Lowest
-
 abbrev pub isAt : Lowest → Bool
-isAt (at k) = true
-isAt nowhere = false
+isAt (At k) = true
+isAt Nowhere = false
 
 -- the lowest of the n numbers from i on that passes the test
 unfoldable pub lowest : (ℕ → Bool) → ℕ → ℕ → Lowest
 unfolding over
-lowest f i n = over (λ k rest. pick (f k) (at k) rest) nowhere i n
+lowest f i n = over (λ k rest. pick (f k) (At k) rest) Nowhere i n
 
 -- how many of them pass
 unfoldable pub count : (ℕ → Bool) → ℕ → ℕ → ℕ
@@ -68,48 +66,48 @@ over-cong f g end i (suc n) h =
 -- ---- a search
 
 module _ (f : ℕ → Bool) (i n : ℕ) where
-  pub lowest-end : n ≤ i → lowest f i (n - i) ≡ nowhere
+  pub lowest-end : n ≤ i → lowest f i (n - i) ≡ Nowhere
   unfolding lowest
-  lowest-end h = over-end _ nowhere i n h
+  lowest-end h = over-end _ Nowhere i n h
 
-  pub lowest-stop : i < n → f i ≡ true → lowest f i (n - i) ≡ at i
+  pub lowest-stop : i < n → f i ≡ true → lowest f i (n - i) ≡ At i
   unfolding lowest
-  lowest-stop h e = over-next _ nowhere i n h ∙ rw e refl
+  lowest-stop h e = over-next _ Nowhere i n h ∙ rw e refl
 
   pub lowest-on : i < n → f i ≡ false → lowest f i (n - i) ≡ lowest f (i + 1) (n - (i + 1))
   unfolding lowest
-  lowest-on h e = over-next _ nowhere i n h ∙ rw e refl
+  lowest-on h e = over-next _ Nowhere i n h ∙ rw e refl
 
 -- tests that agree on the range are found at one place
 pub lowest-cong : (f g : ℕ → Bool) (i n : ℕ) → ((k : ℕ) → i ≤ k → k < i + n → f k ≡ g k) → lowest f i n ≡ lowest g i n
 unfolding lowest
-lowest-cong f g i n h = over-cong _ _ nowhere i n (λ k p q r. ap (λ (t : Bool). pick t (at k) r) (h k p q))
+lowest-cong f g i n h = over-cong _ _ Nowhere i n (λ k p q r. ap (λ (t : Bool). pick t (At k) r) (h k p q))
 
--- nowhere: no number in the range passes
-pub nowhere→ : (f : ℕ → Bool) (i n : ℕ) → lowest f i n ≡ nowhere → (k : ℕ) → i ≤ k → k < i + n → f k ≡ false
+-- Nowhere: no number in the range passes
+pub nowhere→ : (f : ℕ → Bool) (i n : ℕ) → lowest f i n ≡ Nowhere → (k : ℕ) → i ≤ k → k < i + n → f k ≡ false
 unfolding lowest
 nowhere→ f i zero e k h l = absurd (omega arith)
 nowhere→ f i (suc n) e k h l = go (nowhere→ f (suc i) n) (f i) refl (ℕ-discrete k i)
   where
-    go : (lowest f (suc i) n ≡ nowhere → (j : ℕ) → suc i ≤ j → j < suc i + n → f j ≡ false) → (b : Bool) → f i ≡ b → Dec (k ≡ i) → f k ≡ false
-    go ih true p d = let z : at i ≡ nowhere = rw p at e in let o : _≡_ {A = ℕ} 0 1 = cc in absurd (omega arith)
+    go : (lowest f (suc i) n ≡ Nowhere → (j : ℕ) → suc i ≤ j → j < suc i + n → f j ≡ false) → (b : Bool) → f i ≡ b → Dec (k ≡ i) → f k ≡ false
+    go ih true p d = let z : At i ≡ Nowhere = rw p at e in let o : _≡_ {A = ℕ} 0 1 = cc in absurd (omega arith)
     go ih false p (yes q) = ap f q ∙ p
     go ih false p (no q) = ih (rw p at e) k (omega arith) (omega arith)
 
-pub →nowhere : (f : ℕ → Bool) (i n : ℕ) → ((k : ℕ) → i ≤ k → k < i + n → f k ≡ false) → lowest f i n ≡ nowhere
+pub →nowhere : (f : ℕ → Bool) (i n : ℕ) → ((k : ℕ) → i ≤ k → k < i + n → f k ≡ false) → lowest f i n ≡ Nowhere
 unfolding lowest
 →nowhere f i zero h = refl
 →nowhere f i (suc n) h = rw (h i (omega arith) (omega arith)) (→nowhere f (suc i) n (λ k p q. h k (omega arith) (omega arith)))
 
 -- a place: it lies in the range and passes
-pub at→ : (f : ℕ → Bool) (i n k : ℕ) → lowest f i n ≡ at k → (i ≤ k) × (k < i + n) × (f k ≡ true)
+pub at→ : (f : ℕ → Bool) (i n k : ℕ) → lowest f i n ≡ At k → (i ≤ k) × (k < i + n) × (f k ≡ true)
 unfolding lowest
 at→ f i zero k e = let o : _≡_ {A = ℕ} 0 1 = cc in absurd (omega arith)
 at→ f i (suc n) k e = go (at→ f (suc i) n k) (f i) refl
   where
-    go : (lowest f (suc i) n ≡ at k → (suc i ≤ k) × (k < suc i + n) × (f k ≡ true)) → (b : Bool) → f i ≡ b → (i ≤ k) × (k < i + suc n) × (f k ≡ true)
+    go : (lowest f (suc i) n ≡ At k → (suc i ≤ k) × (k < suc i + n) × (f k ≡ true)) → (b : Bool) → f i ≡ b → (i ≤ k) × (k < i + suc n) × (f k ≡ true)
     go ih true p =
-        let z : at i ≡ at k = rw p at e in
+        let z : At i ≡ At k = rw p at e in
         let o : i ≡ k = cc in
         (omega arith, omega arith, ap f (sym o) ∙ p)
     go ih false p = let r = ih (rw p at e) in (omega (arith, r .0), omega (arith, r .1), r .2)

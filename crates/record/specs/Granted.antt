@@ -9,7 +9,8 @@ use lib.ListN.{length}
 use lib.Dec.{ltb, eqb}
 use borrow.Author.Tests.{not-false}
 use Rattle.laws.specs.Truth.{both, both-true}
-use Rattle.laws.specs.Scan.{Lowest, at, nowhere}
+use Rattle.laws.specs.declared.Lowest.{Lowest}
+use Rattle.laws.specs.declared.Lowest.the-variants.{At, Nowhere}
 use Rattle.layout.specs.declared.Layout.{Layout}
 use Rattle.blocks.specs.Blocks.{blocksFor}
 use Rattle.names.specs.Names.{legalName, legalType}
@@ -19,16 +20,16 @@ pass-if : (t : Bool) (n : ℕ) (next : Judged) (s : ℕ) → refuseIf t n next �
 pass-if true n next s e = let z : _≡_ {A = ℕ} 0 1 = cc in absurd (omega arith)
 pass-if false n next s e = (refl, e)
 
-pass-at : (n : ℕ) (w : Lowest) (next : Judged) (s : ℕ) → refuseAt n w next ≡ grant s → (w ≡ nowhere) × (next ≡ grant s)
-pass-at n (at k) next s e = let z : _≡_ {A = ℕ} 0 1 = cc in absurd (omega arith)
-pass-at n nowhere next s e = (refl, e)
+pass-at : (n : ℕ) (w : Lowest) (next : Judged) (s : ℕ) → refuseAt n w next ≡ grant s → (w ≡ Nowhere) × (next ≡ grant s)
+pass-at n (At k) next s e = let z : _≡_ {A = ℕ} 0 1 = cc in absurd (omega arith)
+pass-at n Nowhere next s e = (refl, e)
 
-pass-or : (n : ℕ) (w : Lowest) (next : ℕ → Judged) (s : ℕ) → orRefuse n w next ≡ grant s → (k : ℕ) × (w ≡ at k) × (next k ≡ grant s)
-pass-or n (at k) next s e = (k, refl, e)
-pass-or n nowhere next s e = let z : _≡_ {A = ℕ} 0 1 = cc in absurd (omega arith)
+pass-or : (n : ℕ) (w : Lowest) (next : ℕ → Judged) (s : ℕ) → orRefuse n w next ≡ grant s → (k : ℕ) × (w ≡ At k) × (next k ≡ grant s)
+pass-or n (At k) next s e = (k, refl, e)
+pass-or n Nowhere next s e = let z : _≡_ {A = ℕ} 0 1 = cc in absurd (omega arith)
 
 -- find and remove: the slot has the name
-pub granted-name : (l : Layout) (files : Files) (name : List ℕ) (s : ℕ) → judgeName l files name ≡ grant s → slotOf l files name ≡ at s
+pub granted-name : (l : Layout) (files : Files) (name : List ℕ) (s : ℕ) → judgeName l files name ≡ grant s → slotOf l files name ≡ At s
 unfolding judgeName
 granted-name l files name s e =
     let a = pass-if (not (legalName l name)) 11 (orRefuse 10 (slotOf l files name) (λ s. grant s)) s e in
@@ -41,8 +42,8 @@ pub record Puts (l : Layout) (files : Files) (name : List ℕ) (type : ℕ) (con
   pub name-legal : legalName l name ≡ true
   pub type-legal : legalType l type ≡ true
   pub some-content : eqb (length content) 0 ≡ false
-  pub new-name : slotOf l files name ≡ nowhere
-  pub slot : emptySlot l files ≡ at s
+  pub new-name : slotOf l files name ≡ Nowhere
+  pub slot : emptySlot l files ≡ At s
   pub room : ltb (free l files) (blocksFor (length content)) ≡ false
   pub short : ltb 16777215 (length content) ≡ false
 

@@ -7,7 +7,9 @@ use Prim.Native.Nat.{ℕ, _+_, _-_, min}
 use lib.ListN.{length, drop}
 use lib.Dec.{ltb, eqb}
 use Rattle.laws.specs.Truth.{pick, both}
-use Rattle.laws.specs.Scan.{Lowest, at, nowhere, lowest, count, total}
+use Rattle.laws.specs.Scan.{lowest, count, total}
+use Rattle.laws.specs.declared.Lowest.{Lowest}
+use Rattle.laws.specs.declared.Lowest.the-variants.{At, Nowhere}
 use Rattle.laws.specs.Lists.{same}
 use Rattle.laws.specs.Splice.{part}
 use Rattle.layout.specs.declared.Kind.{Kind}
@@ -76,13 +78,13 @@ refuseIf false n next = next
 
 -- refused at the slot found
 abbrev pub refuseAt : ℕ → Lowest → Judged → Judged
-refuseAt n (at s) next = refuse n s
-refuseAt n nowhere next = next
+refuseAt n (At s) next = refuse n s
+refuseAt n Nowhere next = next
 
 -- refused where no slot is found
 abbrev pub orRefuse : ℕ → Lowest → (ℕ → Judged) → Judged
-orRefuse n (at s) next = next s
-orRefuse n nowhere next = refuse n 0
+orRefuse n (At s) next = next s
+orRefuse n Nowhere next = refuse n 0
 
 abbrev pub named : List ℕ → Option File → Bool
 named name none = false

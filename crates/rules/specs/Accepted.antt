@@ -22,13 +22,15 @@ use Rattle.layout.specs.Layouts.{layoutOf, blocksOf}
 use Rattle.layout.specs.Right.{layout-right}
 use Rattle.map.specs.Map.{mapAt, freeCount}
 use Rattle.view.specs.Disk.{used, filesOf}
-use Rattle.view.specs.Rules.{Ruled, pass, fail, rules, passed-valid, valid-passed}
+use Rattle.view.specs.declared.Ruled.{Ruled}
+use Rattle.view.specs.declared.Ruled.the-variants.{Pass, Fail}
+use Rattle.view.specs.Rules.{rules, passed-valid, valid-passed}
 use Rattle.image.specs.Image.{identityAt, viewOf, filesIn, DiskRules}
 use Rattle.record.specs.Record.{isEmpty, fileCount}
 use Rattle.record.specs.Update.{empty-used}
 use Rattle.rules.specs.declared.Checked.{Checked}
 use Rattle.rules.specs.declared.Checked.the-variants.{Accepted}
-use Rattle.rules.specs.Check.{orRefused, densityOf, hasKind, kindOf, usedCount, orFault, checkAs, checkOf, checkHead}
+use Rattle.rules.specs.Check.{orRefused, densityOf, hasIdentity, kindOf, usedCount, orFault, checkAs, checkOf, checkHead}
 
 -- The check's answer for an image that meets the rules.
 abbrev pub acceptedAs : Kind → Density → List ℕ → Checked
@@ -62,31 +64,31 @@ is-density n High e = rw (ne-eqb n (1024 * blocksOf Low) (λ z. omega arith), eq
 abbrev Identified : Kind → Density → (ℕ → ℕ) → Type 0
 Identified k d b = (s : ℕ) → s < layoutOf k d .slots → identityAt (layoutOf k d) b s ≡ layoutOf k d .identity
 
-kind-identified : (k : Kind) (d : Density) (b : ℕ → ℕ) → hasKind k d b ≡ true → Identified k d b
-unfolding hasKind
+kind-identified : (k : Kind) (d : Density) (b : ℕ → ℕ) → hasIdentity (layoutOf k d) b ≡ true → Identified k d b
+unfolding hasIdentity
 kind-identified k d b e s h =
     let l = layoutOf k d in
     eqb-true (identityAt l b s) (l .identity) (all→ (λ t. eqb (identityAt l b t) (l .identity)) 0 (l .slots) e s (omega arith) (omega arith))
 
-identified-kind : (k : Kind) (d : Density) (b : ℕ → ℕ) → Identified k d b → hasKind k d b ≡ true
-unfolding hasKind
+identified-kind : (k : Kind) (d : Density) (b : ℕ → ℕ) → Identified k d b → hasIdentity (layoutOf k d) b ≡ true
+unfolding hasIdentity
 identified-kind k d b h =
     let l = layoutOf k d in
     →all (λ t. eqb (identityAt l b t) (l .identity)) 0 (l .slots) (λ s p q. eq-eqb (identityAt l b s) (l .identity) (h s (omega arith)))
 
 -- no image has both
-not-900 : (d : Density) (b : ℕ → ℕ) → Identified S1000 d b → hasKind S900 d b ≡ false
-not-900 d b h = go (hasKind S900 d b) refl
+not-900 : (d : Density) (b : ℕ → ℕ) → Identified S1000 d b → hasIdentity (layoutOf S900 d) b ≡ false
+not-900 d b h = go (hasIdentity (layoutOf S900 d) b) refl
   where
-    go : (t : Bool) → hasKind S900 d b ≡ t → hasKind S900 d b ≡ false
+    go : (t : Bool) → hasIdentity (layoutOf S900 d) b ≡ t → hasIdentity (layoutOf S900 d) b ≡ false
     go true e = absurd (omega (arith, kind-identified S900 d b e 0 (omega arith), h 0 (omega arith)))
     go false e = e
 
 kind-is : (d : Density) (b : ℕ → ℕ) (k : Kind) → kindOf d b ≡ some k → Identified k d b
 unfolding kindOf
-kind-is d b k e = go (hasKind S900 d b) (hasKind S1000 d b) refl refl k e
+kind-is d b k e = go (hasIdentity (layoutOf S900 d) b) (hasIdentity (layoutOf S1000 d) b) refl refl k e
   where
-    go : (t u : Bool) → hasKind S900 d b ≡ t → hasKind S1000 d b ≡ u → (k : Kind) → pick t (some S900) (pick u (some S1000) none) ≡ some k → Identified k d b
+    go : (t u : Bool) → hasIdentity (layoutOf S900 d) b ≡ t → hasIdentity (layoutOf S1000 d) b ≡ u → (k : Kind) → pick t (some S900) (pick u (some S1000) none) ≡ some k → Identified k d b
     go true u p q S900 e = kind-identified S900 d b p
     go true u p q S1000 e = let h : S900 ≡ S1000 = cc in absurd (let z : _≡_ {A = ℕ} 0 1 = cc in omega arith)
     go false true p q S900 e = let h : S1000 ≡ S900 = cc in absurd (let z : _≡_ {A = ℕ} 0 1 = cc in omega arith)
@@ -126,15 +128,15 @@ rules-accepted k d img r =
 
 -- the check's answer of a kind and a density
 as-is : (k j : Kind) (d c : Density) (b : ℕ → ℕ) (f n : ℕ) → checkAs k d b ≡ Accepted j c f n
-    → (k ≡ j) × (d ≡ c) × (rules (layoutOf k d) (viewOf (layoutOf k d) b) ≡ pass) × (usedCount (layoutOf k d) (viewOf (layoutOf k d) b) ≡ f) × (freeCount (layoutOf k d) (mapAt b) ≡ n)
+    → (k ≡ j) × (d ≡ c) × (rules (layoutOf k d) (viewOf (layoutOf k d) b) ≡ Pass) × (usedCount (layoutOf k d) (viewOf (layoutOf k d) b) ≡ f) × (freeCount (layoutOf k d) (mapAt b) ≡ n)
 unfolding checkAs
 as-is k j d c b f n e = go (rules (layoutOf k d) (viewOf (layoutOf k d) b)) refl e
   where
     go : (r : Ruled) → rules (layoutOf k d) (viewOf (layoutOf k d) b) ≡ r
         → orFault r (Accepted k d (usedCount (layoutOf k d) (viewOf (layoutOf k d) b)) (freeCount (layoutOf k d) (mapAt b))) ≡ Accepted j c f n
-        → (k ≡ j) × (d ≡ c) × (rules (layoutOf k d) (viewOf (layoutOf k d) b) ≡ pass) × (usedCount (layoutOf k d) (viewOf (layoutOf k d) b) ≡ f) × (freeCount (layoutOf k d) (mapAt b) ≡ n)
-    go pass p q = (cc, cc, p, cc, cc)
-    go (fail x y) p q = absurd (let z : _≡_ {A = ℕ} 0 1 = cc in omega arith)
+        → (k ≡ j) × (d ≡ c) × (rules (layoutOf k d) (viewOf (layoutOf k d) b) ≡ Pass) × (usedCount (layoutOf k d) (viewOf (layoutOf k d) b) ≡ f) × (freeCount (layoutOf k d) (mapAt b) ≡ n)
+    go Pass p q = (cc, cc, p, cc, cc)
+    go (Fail x y) p q = absurd (let z : _≡_ {A = ℕ} 0 1 = cc in omega arith)
 
 pub accepted-rules : (k : Kind) (d : Density) (f n : ℕ) (img : List ℕ) → checkOf img ≡ Accepted k d f n → DiskRules (layoutOf k d) img
 unfolding checkHead
@@ -146,7 +148,7 @@ accepted-rules k d f n img e = go (densityOf (length img)) refl e
         let w = as-is j k c d (bytes img) f n r in
         let u : j ≡ k = w .0 in
         let v : c ≡ d = w .1 in
-        let a : rules (layoutOf k d) (viewOf (layoutOf k d) (bytes img)) ≡ pass = rw (u, v) at (w .2) in
+        let a : rules (layoutOf k d) (viewOf (layoutOf k d) (bytes img)) ≡ Pass = rw (u, v) at (w .2) in
         let i : kindOf d (bytes img) ≡ some k = ap (λ (x : Density). kindOf x (bytes img)) (sym v) ∙ q ∙ ap some u in
         record {
           size = density-is (length img) d (p ∙ ap some v) ∙ ap (λ (x : ℕ). 1024 * x) (sym (blocks-of k d));

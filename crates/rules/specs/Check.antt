@@ -17,7 +17,9 @@ use Rattle.layout.specs.declared.Layout.{Layout}
 use Rattle.layout.specs.Layouts.{layoutOf, blocksOf}
 use Rattle.map.specs.Map.{mapAt, freeCount}
 use Rattle.view.specs.Disk.{View, used}
-use Rattle.view.specs.Rules.{Ruled, pass, fail, rules}
+use Rattle.view.specs.declared.Ruled.{Ruled}
+use Rattle.view.specs.declared.Ruled.the-variants.{Pass, Fail}
+use Rattle.view.specs.Rules.{rules}
 use Rattle.image.specs.Image.{entryAt, identityAt, viewOf}
 use Rattle.record.specs.Record.{shapeOf, Call, check, list, find, page, put, remove, Answer, accepted, refused, Outcome}
 use Rattle.record.specs.Step.{stepImage}
@@ -33,14 +35,14 @@ orRefused (some x) number next = next x
 unfoldable pub densityOf : ℕ → Option Density
 densityOf length = pick (eqb length (1024 * blocksOf Low)) (some Low) (pick (eqb length (1024 * blocksOf High)) (some High) none)
 
--- 2: every slot, empty ones too, has the kind's identity.
-unfoldable pub hasKind : Kind → Density → (ℕ → ℕ) → Bool
+-- 2: every slot, empty ones too, has the layout's identity.
+unfoldable pub hasIdentity : Layout → (ℕ → ℕ) → Bool
 unfolding all
-hasKind k d b = all (λ s. eqb (identityAt (layoutOf k d) b s) (layoutOf k d .identity)) 0 (layoutOf k d .slots)
+hasIdentity l b = all (λ s. eqb (identityAt l b s) (l .identity)) 0 (l .slots)
 
 unfoldable pub kindOf : Density → (ℕ → ℕ) → Option Kind
-unfolding hasKind
-kindOf d b = pick (hasKind S900 d b) (some S900) (pick (hasKind S1000 d b) (some S1000) none)
+unfolding hasIdentity
+kindOf d b = pick (hasIdentity (layoutOf S900 d) b) (some S900) (pick (hasIdentity (layoutOf S1000 d) b) (some S1000) none)
 
 -- the number of used slots
 unfoldable pub usedCount : Layout → View → ℕ
@@ -49,8 +51,8 @@ usedCount l v = count (λ s. used (v .entry s)) 0 (l .slots)
 
 -- 3 to 9: the disk rules of that kind and density.
 abbrev pub orFault : Ruled → Checked → Checked
-orFault pass next = next
-orFault (fail number place) next = Refused number place
+orFault Pass next = next
+orFault (Fail number place) next = Refused number place
 
 unfoldable pub checkAs : Kind → Density → (ℕ → ℕ) → Checked
 unfolding rules usedCount freeCount entryAt

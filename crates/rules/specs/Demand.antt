@@ -11,7 +11,9 @@ use lib.Dec.{ltb}
 use lib.ListN.{length}
 use borrow.Author.Tests.{ne-eqb, lt-ltb, ltb-true}
 use Rattle.laws.specs.Truth.{clash, false-if}
-use Rattle.laws.specs.Scan.{Lowest, at, nowhere, lowest, nowhere→, →nowhere, total}
+use Rattle.laws.specs.Scan.{lowest, nowhere→, →nowhere, total}
+use Rattle.laws.specs.declared.Lowest.{Lowest}
+use Rattle.laws.specs.declared.Lowest.the-variants.{At, Nowhere}
 use Rattle.laws.specs.Lists.{same, same-true}
 use Rattle.laws.specs.Reader.{bytes}
 use Rattle.layout.specs.declared.Kind.{Kind}
@@ -140,7 +142,7 @@ module _ (k : Kind) (d : Density) (f n : ℕ) (img : List ℕ) (yes : checkOf im
   abbrev files : Files
   files = filesIn l img
 
-  no-slot : ((t : ℕ) (file : File) → files t ≡ some file → name ≡ file .name → ⊥) → slotOf l files name ≡ nowhere
+  no-slot : ((t : ℕ) (file : File) → files t ≡ some file → name ≡ file .name → ⊥) → slotOf l files name ≡ Nowhere
   unfolding slotOf
   no-slot new = →nowhere (λ t. named name (files t)) 0 (l .slots) (λ t p q. go t (files t) refl)
     where
@@ -148,16 +150,16 @@ module _ (k : Kind) (d : Density) (f n : ℕ) (img : List ℕ) (yes : checkOf im
       go t none e = ap (named name) e
       go t (some file) e = ap (named name) e ∙ false-if (same name (file .name)) (λ x. new t file e (same-true name (file .name) x))
 
-  some-slot : (s : ℕ) → s < l .slots → files s ≡ none → (r : ℕ) × (emptySlot l files ≡ at r)
+  some-slot : (s : ℕ) → s < l .slots → files s ≡ none → (r : ℕ) × (emptySlot l files ≡ At r)
   unfolding emptySlot
   some-slot s h e = go (lowest (λ t. isEmpty (files t)) 0 (l .slots)) refl
     where
-      go : (w : Lowest) → lowest (λ t. isEmpty (files t)) 0 (l .slots) ≡ w → (r : ℕ) × (lowest (λ t. isEmpty (files t)) 0 (l .slots) ≡ at r)
-      go (at r) p = (r, p)
-      go nowhere p = absurd (clash (ap isEmpty e) (nowhere→ (λ t. isEmpty (files t)) 0 (l .slots) p s (omega arith) (omega arith)))
+      go : (w : Lowest) → lowest (λ t. isEmpty (files t)) 0 (l .slots) ≡ w → (r : ℕ) × (lowest (λ t. isEmpty (files t)) 0 (l .slots) ≡ At r)
+      go (At r) p = (r, p)
+      go Nowhere p = absurd (clash (ap isEmpty e) (nowhere→ (λ t. isEmpty (files t)) 0 (l .slots) p s (omega arith) (omega arith)))
 
   -- such a put is judged by its room and its length
-  judged : legalType l type ≡ true → legalName l name ≡ true → slotOf l files name ≡ nowhere → (length content ≡ 0 → ⊥) → (s : ℕ) → emptySlot l files ≡ at s
+  judged : legalType l type ≡ true → legalName l name ≡ true → slotOf l files name ≡ Nowhere → (length content ≡ 0 → ⊥) → (s : ℕ) → emptySlot l files ≡ At s
       → judgePut l files name type content ≡ refuseIf (ltb n (blocksFor (length content))) 15 (refuseIf (ltb 16777215 (length content)) 16 (grant s))
   unfolding judgePut
   judged type-legal name-legal new some-content s slot =

@@ -25,7 +25,7 @@ use Rattle.view.specs.Disk.{used}
 use Rattle.view.specs.Head.{same-rules}
 use Rattle.image.specs.Image.{identityAt, viewOf}
 use Rattle.image.specs.Entries.{entry-cong}
-use Rattle.rules.specs.Check.{orRefused, densityOf, hasKind, kindOf, usedCount, checkAs, checkHead, checkOf}
+use Rattle.rules.specs.Check.{orRefused, densityOf, hasIdentity, kindOf, usedCount, checkAs, checkHead, checkOf}
 
 -- every layout's system blocks lie in the head
 head-holds : (k : Kind) (d : Density) → blockOffset (layoutOf k d .first) ≤ 5120
@@ -69,8 +69,8 @@ module _ (b c : ℕ → ℕ) (agree : (i : ℕ) → i < 5120 → c i ≡ b i) wh
         same-free l right head,
       ) refl
 
-  same-has : (k : Kind) (d : Density) → hasKind k d c ≡ hasKind k d b
-  unfolding hasKind
+  same-has : (k : Kind) (d : Density) → hasIdentity (layoutOf k d) c ≡ hasIdentity (layoutOf k d) b
+  unfolding hasIdentity
   same-has k d =
       let l = layoutOf k d in
       all-cong (λ s. eqb (identityAt l c s) (l .identity)) (λ s. eqb (identityAt l b s) (l .identity)) 0 (l .slots)

@@ -7,7 +7,9 @@ use Prim.Native.Nat.{ℕ, zero, suc, _+_, _-_, _≤_, _<_}
 use native.Mathlib.Omega.{arith}
 use borrow.Author.Tests.{not-false}
 use Rattle.laws.specs.Truth.{pick, both, both-false}
-use Rattle.laws.specs.Scan.{Lowest, at, nowhere, lowest, nowhere→, at→, lowest-cong, any-cong}
+use Rattle.laws.specs.Scan.{lowest, nowhere→, at→, lowest-cong, any-cong}
+use Rattle.laws.specs.declared.Lowest.{Lowest}
+use Rattle.laws.specs.declared.Lowest.the-variants.{At, Nowhere}
 use Rattle.laws.specs.Lists.{meets}
 use Rattle.layout.specs.declared.Layout.{Layout}
 use Rattle.layout.specs.Right.{LayoutRight}
@@ -16,12 +18,14 @@ use Rattle.map.specs.declared.Walk.{Walk}
 use Rattle.map.specs.Map.{isWhole, faultOf}
 use Rattle.map.specs.Chains.{chain-cong, chain-data}
 use Rattle.map.specs.Walks.{walk-cong, walk-chained, whole-is}
+use Rattle.view.specs.declared.Ruled.{Ruled}
+use Rattle.view.specs.declared.Ruled.the-variants.{Pass}
 use Rattle.view.specs.Disk.{View, used, entryChain, chainOf, owned}
-use Rattle.view.specs.Rules.{Ruled, pass, orFail, badSystem, malformed, hasNameOf, repeated, walkOf, broken, sharing, stray, rules}
+use Rattle.view.specs.Rules.{orFail, badSystem, malformed, hasNameOf, repeated, walkOf, broken, sharing, stray, rules}
 
-orFail-cong : (f g : ℕ → ℕ) (a b : Lowest) (x y : Ruled) → a ≡ b → ((k : ℕ) → b ≡ at k → f k ≡ g k) → (b ≡ nowhere → x ≡ y) → orFail f a x ≡ orFail g b y
-orFail-cong f g a (at k) x y e h n = rw (e, h k refl) refl
-orFail-cong f g a nowhere x y e h n = rw e (n refl)
+orFail-cong : (f g : ℕ → ℕ) (a b : Lowest) (x y : Ruled) → a ≡ b → ((k : ℕ) → b ≡ At k → f k ≡ g k) → (b ≡ Nowhere → x ≡ y) → orFail f a x ≡ orFail g b y
+orFail-cong f g a (At k) x y e h n = rw (e, h k refl) refl
+orFail-cong f g a Nowhere x y e h n = rw e (n refl)
 
 module _ (l : Layout) (right : LayoutRight l) (v w : View) (maps : (k : ℕ) → k < l .blocks → w .map k ≡ v .map k) (entries : (s : ℕ) → s < l .slots → w .entry s ≡ v .entry s) where
   same-system : lowest (badSystem l w) 0 (l .system) ≡ lowest (badSystem l v) 0 (l .system)
@@ -50,7 +54,7 @@ module _ (l : Layout) (right : LayoutRight l) (v w : View) (maps : (k : ℕ) →
       lowest-cong (broken l w) (broken l v) 0 (l .slots)
       (λ s p q. ap₂ both (ap used (entries s (omega arith))) (ap (λ (x : Walk). not (isWhole x)) (same-walk s (omega arith))))
 
-  module _ (clean : lowest (broken l v) 0 (l .slots) ≡ nowhere) where
+  module _ (clean : lowest (broken l v) 0 (l .slots) ≡ Nowhere) where
     same-entry-chain : (s : ℕ) → s < l .slots → used (v .entry s) ≡ true → entryChain (w .map) (w .entry s) ≡ entryChain (v .map) (v .entry s)
     unfolding entryChain broken walkOf
     same-entry-chain s h u =
@@ -93,4 +97,4 @@ module _ (l : Layout) (right : LayoutRight l) (v w : View) (maps : (k : ℕ) →
       orFail-cong (λ s. faultOf (walkOf l w s)) (λ s. faultOf (walkOf l v s)) (lowest (broken l w) 0 (l .slots)) (lowest (broken l v) 0 (l .slots)) _ _ same-broken
       (λ s e. let r = at→ (broken l v) 0 (l .slots) s e in ap faultOf (same-walk s (omega (arith, r .1)))) (λ clean.
       orFail-cong (λ k. 8) (λ k. 8) (lowest (sharing l w) 0 (l .slots)) (lowest (sharing l v) 0 (l .slots)) _ _ (same-sharing clean) (λ k e. refl) (λ e.
-      orFail-cong (λ k. 9) (λ k. 9) (lowest (stray l w) (l .first) (l .blocks - l .first)) (lowest (stray l v) (l .first) (l .blocks - l .first)) pass pass (same-stray clean) (λ k e. refl) (λ e. refl))))))
+      orFail-cong (λ k. 9) (λ k. 9) (lowest (stray l w) (l .first) (l .blocks - l .first)) (lowest (stray l v) (l .first) (l .blocks - l .first)) Pass Pass (same-stray clean) (λ k e. refl) (λ e. refl))))))
