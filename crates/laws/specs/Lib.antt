@@ -6,3 +6,4 @@ pub mod Reader
 pub mod Splice
 pub mod Padded
 pub mod Clip
+pub mod Search

@@ -56,7 +56,7 @@ getD-part l at n i h = rw (getD-take, getD-drop)
 -- ---- a part, read back
 
 -- two parts are equal by their elements
-part-ext : (l m : List ℕ) (at bt n : ℕ) → at + n ≤ length l → bt + n ≤ length m → ((i : ℕ) → i < n → getD l (at + i) 0 ≡ getD m (bt + i) 0) → part l at n ≡ part m bt n
+pub part-ext : (l m : List ℕ) (at bt n : ℕ) → at + n ≤ length l → bt + n ≤ length m → ((i : ℕ) → i < n → getD l (at + i) 0 ≡ getD m (bt + i) 0) → part l at n ≡ part m bt n
 part-ext l m at bt n h k e =
     ext-getD 0 (part l at n) (part m bt n) (length-part l at n h ∙ sym (length-part m bt n k))
     (λ i p. let q : i < n = omega (arith, length-part l at n h) in getD-part l at n i q ∙ e i q ∙ sym (getD-part m bt n i q))

@@ -8,12 +8,18 @@ use Rattle.layout.specs.declared.Kind.the-variants.{S900, S1000}
 use Rattle.layout.specs.declared.Density.{Density}
 use Rattle.layout.specs.declared.Density.the-variants.{Low, High}
 
--- Blocks of an image, and its first data block. The map's end decides the latter: it lies in the fourth block at low
--- density and in the fifth at high, whichever the sampler.
+-- Blocks of an image.
 abbrev pub blocksOf : Density → ℕ
 blocksOf Low = 800
 blocksOf High = 1600
 
+-- Its bytes.
+abbrev pub lengthOf : Density → ℕ
+lengthOf Low = 819200
+lengthOf High = 1638400
+
+-- Its first data block. The map's end decides: it lies in the fourth block at low density and in the fifth at high, whichever the
+-- sampler.
 abbrev pub firstOf : Density → ℕ
 firstOf Low = 4
 firstOf High = 5

@@ -1,6 +1,6 @@
 // The four kinds of floppy image, and where things lie on each: one record that all else is written over.
 ghost use mathlib.Core.Path.{_≡_};
-ghost use Rattle.layout.specs.Layouts.{layoutOf, s900, s1000, blocksOf, firstOf};
+ghost use Rattle.layout.specs.Layouts.{layoutOf, s900, s1000, blocksOf, firstOf, lengthOf};
 
 // The sampler whose disk it is.
 pub enum Kind {
@@ -48,6 +48,16 @@ fn blocks_of(density: Density) -> usize
     match density {
         Density::Low => 800,
         Density::High => 1600,
+    }
+}
+
+// The bytes of an image of that density.
+pub fn image_length(density: Density) -> usize
+    ensures { λ r. ⌜ r ≡ lengthOf density ⌝ }
+{
+    match density {
+        Density::Low => 819200,
+        Density::High => 1638400,
     }
 }
 

@@ -5,7 +5,7 @@ use mathlib.Core.Bool.{Bool, true, false, not}
 use mathlib.Core.List.{List}
 use mathlib.Core.Option.{Option, none, some}
 use mathlib.Core.Logic.{_↔_}
-use Prim.Native.Nat.{ℕ, _*_, _<_}
+use Prim.Native.Nat.{ℕ, _<_}
 use native.Mathlib.Omega.{arith}
 use lib.Dec.{eqb}
 use lib.ListN.{length}
@@ -18,7 +18,7 @@ use Rattle.layout.specs.declared.Kind.the-variants.{S900, S1000}
 use Rattle.layout.specs.declared.Density.{Density}
 use Rattle.layout.specs.declared.Density.the-variants.{Low, High}
 use Rattle.layout.specs.declared.Layout.{Layout}
-use Rattle.layout.specs.Layouts.{layoutOf, blocksOf}
+use Rattle.layout.specs.Layouts.{layoutOf, imageLength, lengthOf}
 use Rattle.layout.specs.Right.{layout-right}
 use Rattle.map.specs.Map.{mapAt, freeCount}
 use Rattle.view.specs.Disk.{used, filesOf}
@@ -38,25 +38,27 @@ acceptedAs k d img = Accepted k d (fileCount (layoutOf k d) (filesIn (layoutOf k
 
 -- ---- the length
 
-blocks-of : (k : Kind) (d : Density) → layoutOf k d .blocks ≡ blocksOf d
-blocks-of S900 d = refl
-blocks-of S1000 d = refl
+length-of : (k : Kind) (d : Density) → imageLength (layoutOf k d) ≡ lengthOf d
+length-of S900 Low = refl
+length-of S900 High = refl
+length-of S1000 Low = refl
+length-of S1000 High = refl
 
-density-is : (n : ℕ) (d : Density) → densityOf n ≡ some d → n ≡ 1024 * blocksOf d
+density-is : (n : ℕ) (d : Density) → densityOf n ≡ some d → n ≡ lengthOf d
 unfolding densityOf
-density-is n d e = go (eqb n (1024 * blocksOf Low)) (eqb n (1024 * blocksOf High)) refl refl d e
+density-is n d e = go (eqb n (lengthOf Low)) (eqb n (lengthOf High)) refl refl d e
   where
-    go : (t u : Bool) → eqb n (1024 * blocksOf Low) ≡ t → eqb n (1024 * blocksOf High) ≡ u → (d : Density) → pick t (some Low) (pick u (some High) none) ≡ some d → n ≡ 1024 * blocksOf d
-    go true u p q Low e = eqb-true n (1024 * blocksOf Low) p
+    go : (t u : Bool) → eqb n (lengthOf Low) ≡ t → eqb n (lengthOf High) ≡ u → (d : Density) → pick t (some Low) (pick u (some High) none) ≡ some d → n ≡ lengthOf d
+    go true u p q Low e = eqb-true n (lengthOf Low) p
     go true u p q High e = let h : Low ≡ High = cc in absurd (let z : _≡_ {A = ℕ} 0 1 = cc in omega arith)
     go false true p q Low e = let h : High ≡ Low = cc in absurd (let z : _≡_ {A = ℕ} 0 1 = cc in omega arith)
-    go false true p q High e = eqb-true n (1024 * blocksOf High) q
+    go false true p q High e = eqb-true n (lengthOf High) q
     go false false p q d e = absurd (let z : _≡_ {A = ℕ} 0 1 = cc in omega arith)
 
-is-density : (n : ℕ) (d : Density) → n ≡ 1024 * blocksOf d → densityOf n ≡ some d
+is-density : (n : ℕ) (d : Density) → n ≡ lengthOf d → densityOf n ≡ some d
 unfolding densityOf
-is-density n Low e = rw (eq-eqb n (1024 * blocksOf Low) e) refl
-is-density n High e = rw (ne-eqb n (1024 * blocksOf Low) (λ z. omega arith), eq-eqb n (1024 * blocksOf High) e) refl
+is-density n Low e = rw (eq-eqb n (lengthOf Low) e) refl
+is-density n High e = rw (ne-eqb n (lengthOf Low) (λ z. omega arith), eq-eqb n (lengthOf High) e) refl
 
 -- ---- the identities
 
@@ -120,7 +122,7 @@ pub rules-accepted : (k : Kind) (d : Density) (img : List ℕ) → DiskRules (la
 unfolding checkHead
 rules-accepted k d img r =
     rw (
-      is-density (length img) d (r .size ∙ ap (λ (n : ℕ). 1024 * n) (blocks-of k d)),
+      is-density (length img) d (r .size ∙ length-of k d),
       is-kind d (bytes img) k (r .kind),
       valid-passed (layoutOf k d) (layout-right k d) (viewOf (layoutOf k d) (bytes img)) (r .valid),
       ← used-files (layoutOf k d) img,
@@ -151,7 +153,7 @@ accepted-rules k d f n img e = go (densityOf (length img)) refl e
         let a : rules (layoutOf k d) (viewOf (layoutOf k d) (bytes img)) ≡ Pass = rw (u, v) at (w .2) in
         let i : kindOf d (bytes img) ≡ some k = ap (λ (x : Density). kindOf x (bytes img)) (sym v) ∙ q ∙ ap some u in
         record {
-          size = density-is (length img) d (p ∙ ap some v) ∙ ap (λ (x : ℕ). 1024 * x) (sym (blocks-of k d));
+          size = density-is (length img) d (p ∙ ap some v) ∙ sym (length-of k d);
           kind = kind-is d (bytes img) k i;
           valid = passed-valid (layoutOf k d) (viewOf (layoutOf k d) (bytes img)) a;
         }

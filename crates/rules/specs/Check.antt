@@ -3,8 +3,8 @@
 use mathlib.Core.Bool.{Bool}
 use mathlib.Core.List.{List, []}
 use mathlib.Core.Option.{Option, none, some}
-use Prim.Native.Nat.{ℕ, _*_}
-use lib.Dec.{eqb}
+use Prim.Native.Nat.{ℕ, min}
+use lib.Dec.{ltb, eqb}
 use lib.ListN.{length}
 use Rattle.laws.specs.Truth.{pick}
 use Rattle.laws.specs.Scan.{all, count}
@@ -14,7 +14,7 @@ use Rattle.layout.specs.declared.Kind.the-variants.{S900, S1000}
 use Rattle.layout.specs.declared.Density.{Density}
 use Rattle.layout.specs.declared.Density.the-variants.{Low, High}
 use Rattle.layout.specs.declared.Layout.{Layout}
-use Rattle.layout.specs.Layouts.{layoutOf, blocksOf}
+use Rattle.layout.specs.Layouts.{layoutOf, lengthOf}
 use Rattle.map.specs.Map.{mapAt, freeCount}
 use Rattle.view.specs.Disk.{View, used}
 use Rattle.view.specs.declared.Ruled.{Ruled}
@@ -33,7 +33,7 @@ orRefused (some x) number next = next x
 
 -- 1: the image's length is one of the two.
 unfoldable pub densityOf : ℕ → Option Density
-densityOf length = pick (eqb length (1024 * blocksOf Low)) (some Low) (pick (eqb length (1024 * blocksOf High)) (some High) none)
+densityOf length = pick (eqb length (lengthOf Low)) (some Low) (pick (eqb length (lengthOf High)) (some High) none)
 
 -- 2: every slot, empty ones too, has the layout's identity.
 unfoldable pub hasIdentity : Layout → (ℕ → ℕ) → Bool
@@ -68,7 +68,13 @@ checkHead length b = orRefused (densityOf length) 1 (λ d. orRefused (kindOf d b
 abbrev pub checkOf : List ℕ → Checked
 checkOf img = checkHead (length img) (bytes img)
 
--- Its number, place and values.
+-- The check where only an image's head is at hand: its first 5,120 bytes suffice (`start-check`). A head that is shorter than it could be is
+-- refused as a wrong length is.
+unfoldable pub checkStart : List ℕ → ℕ → Checked
+unfolding checkHead
+checkStart head size = pick (ltb (length head) (min size 5120)) (Refused 1 0) (checkHead size (bytes head))
+
+-- The check's number, place and values.
 abbrev pub answerOf : Checked → Answer
 answerOf (Accepted k d files free) = accepted k d files free
 answerOf (Refused number place) = refused number place

@@ -4,11 +4,12 @@ use mathlib.Core.Path.{_≡_, refl, sym, ap, ap₂, _∙_}
 use mathlib.Core.Bool.{Bool}
 use mathlib.Core.List.{List}
 use mathlib.Core.Option.{Option, none, some}
-use Prim.Native.Nat.{ℕ, _+_, _-_, _≤_, _<_}
+use Prim.Native.Nat.{ℕ, _+_, _-_, _≤_, _<_, min}
 use native.Mathlib.Omega.{arith}
 use lib.Dec.{eqb}
-use lib.ListN.{length, take}
-use lib.Seq.{getD-take}
+use lib.ListN.{length, take, length-take}
+use lib.Seq.{getD-take, take-take}
+use borrow.Author.Tests.{le-ltb}
 use Rattle.laws.specs.Truth.{pick}
 use Rattle.laws.specs.Scan.{all-cong, count-cong}
 use Rattle.laws.specs.Reader.{bytes}
@@ -25,10 +26,10 @@ use Rattle.view.specs.Disk.{used}
 use Rattle.view.specs.Head.{same-rules}
 use Rattle.image.specs.Image.{identityAt, viewOf}
 use Rattle.image.specs.Entries.{entry-cong}
-use Rattle.rules.specs.Check.{orRefused, densityOf, hasIdentity, kindOf, usedCount, checkAs, checkHead, checkOf}
+use Rattle.rules.specs.Check.{orRefused, densityOf, hasIdentity, kindOf, usedCount, checkAs, checkHead, checkOf, checkStart}
 
 -- every layout's system blocks lie in the head
-head-holds : (k : Kind) (d : Density) → blockOffset (layoutOf k d .first) ≤ 5120
+pub head-holds : (k : Kind) (d : Density) → blockOffset (layoutOf k d .first) ≤ 5120
 head-holds S900 Low = omega arith
 head-holds S900 High = omega arith
 head-holds S1000 Low = omega arith
@@ -92,10 +93,18 @@ module _ (b c : ℕ → ℕ) (agree : (i : ℕ) → i < 5120 → c i ≡ b i) wh
   unfolding checkHead
   same-check n = density-by (densityOf n)
 
--- The first 5,120 bytes suffice, as the listing program keeps them.
-pub head-check : (img : List ℕ) → checkHead (length img) (bytes (take 5120 img)) ≡ checkOf img
-head-check img = same-check (bytes img) (bytes (take 5120 img)) (λ i h. getD-take 5120 img i 0 (omega arith)) (length img)
+-- A head that has the image's first 5,120 bytes, or all of them, suffices.
+pub start-check : (head img : List ℕ) → min (length img) 5120 ≤ length head → take 5120 head ≡ take 5120 img → checkStart head (length img) ≡ checkOf img
+unfolding checkStart
+start-check head img n e =
+    rw (le-ltb (length head) (min (length img) 5120) n)
+    (same-check (bytes img) (bytes head)
+    (λ i h. sym (getD-take 5120 head i 0 h) ∙ ap (λ (x : List ℕ). bytes x i) e ∙ getD-take 5120 img i 0 h) (length img))
+
+-- The listing program's head: the first 5,120 bytes.
+pub head-check : (img : List ℕ) → checkStart (take 5120 img) (length img) ≡ checkOf img
+head-check img = start-check (take 5120 img) img (omega (arith, length-take 5120 img)) (take-take 5120 5120 img (omega arith))
 
 -- Images of one length with the same head are checked alike.
 pub head-decides : (x y : List ℕ) → length x ≡ length y → take 5120 x ≡ take 5120 y → checkOf x ≡ checkOf y
-head-decides x y n h = sym (head-check x) ∙ ap₂ (λ (k : ℕ) (z : List ℕ). checkHead k (bytes z)) n h ∙ head-check y
+head-decides x y n h = sym (head-check x) ∙ ap₂ (λ (k : ℕ) (z : List ℕ). checkStart z k) n h ∙ head-check y

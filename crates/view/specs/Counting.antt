@@ -115,7 +115,7 @@ module _ (l : Layout) (right : LayoutRight l) (v : View) (valid : Valid l v) whe
       omega (arith, count-split (λ k. eqb (v .map k) 0) (l .first) n)
 
   module _ (sized : Sized l v) where
-    entry-size : (s : ℕ) → Used l v s → 1 ≤ v .entry s .size
+    pub entry-size : (s : ℕ) → Used l v s → 1 ≤ v .entry s .size
     unfolding formed
     entry-size s u =
         let e = v .entry s in
