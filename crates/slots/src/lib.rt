@@ -1,12 +1,19 @@
-// The directory of an image's head: a slot's fields.
+// The directory of an image's head: a slot's fields, and refusals 2, 4 and 5 with the number of used slots.
 // Only the crates above call these; that the directory lies in the head is shown by its length.
 ghost use mathlib.Core.Path.{_≡_};
+ghost use mathlib.Core.Bool.{not};
 ghost use Prim.Native.Nat.{_+_, _≤_, _<_};
 ghost use lib.ListN.{length};
 ghost use Rattle.laws.specs.Reader.{bytes};
+ghost use Rattle.laws.specs.Scan.{lowest};
 ghost use Rattle.layout.specs.Layouts.{slotOffset};
+ghost use Rattle.layout.specs.Right.{LayoutRight};
+ghost use Rattle.blocks.specs.Numbers.{Number};
 ghost use Rattle.view.specs.Disk.{used};
+ghost use Rattle.view.specs.Rules.{malformed, repeated};
 ghost use Rattle.image.specs.Image.{viewOf};
+ghost use Rattle.rules.specs.Check.{hasIdentity, usedCount};
+ghost use Rattle.slots.specs.Keys.{Key, hasKeys};
 
 // Whether a slot is used.
 pub fn is_used(head: &[u8], layout: layout::Layout, slot: usize) -> bool
@@ -40,4 +47,167 @@ pub fn start_of(head: &[u8], layout: layout::Layout, slot: usize) -> usize
 {
     let at = layout.directory + 24 * slot;
     blocks::number2(head, at + 20)
+}
+
+// Whether every slot, empty ones too, has the layout's identity (refusal 2).
+pub fn has_identity(head: &[u8], layout: layout::Layout) -> bool
+    requires { ⌜ slotOffset layout (layout .slots) ≤ length (now head) ⌝ }
+    ensures { λ r. ⌜ r ≡ hasIdentity layout (bytes (now (head .entry))) ⌝ }
+{
+    let directory = layout.directory;
+    let slots = layout.slots;
+    let identity = layout.identity;
+    let mut slot = 0;
+    while slot < slots {
+        let at = directory + 24 * slot;
+        if blocks::number2(head, at + 22) != identity {
+            return false;
+        }
+        slot += 1;
+    }
+    true
+}
+
+// Whether a slot is used and not well formed.
+fn is_malformed(head: &[u8], layout: layout::Layout, slot: usize) -> bool
+    requires { ⌜ LayoutRight layout × (slotOffset layout slot + 24 ≤ length (now head)) ⌝ }
+    ensures { λ r. ⌜ r ≡ malformed layout (viewOf layout (bytes (now (head .entry)))) slot ⌝ }
+{
+    if !is_used(head, layout, slot) {
+        return false;
+    }
+    if !names::is_type(layout, type_of(head, layout, slot)) {
+        return true;
+    }
+    if size_of(head, layout, slot) == 0 {
+        return true;
+    }
+    let at = layout.directory + 24 * slot;
+    let end = at + 16;
+    !names::is_area(layout, &head[at..end])
+}
+
+// The lowest malformed slot (refusal 4).
+pub fn form_fault(head: &[u8], layout: layout::Layout) -> laws::Lowest
+    requires { ⌜ LayoutRight layout × (slotOffset layout (layout .slots) ≤ length (now head)) ⌝ }
+    ensures { λ r. ⌜ r ≡ lowest (malformed layout (viewOf layout (bytes (now (head .entry))))) 0 (layout .slots) ⌝ }
+{
+    let slots = layout.slots;
+    let mut slot = 0;
+    while slot < slots {
+        if is_malformed(head, layout, slot) {
+            return laws::Lowest::At(slot);
+        }
+        slot += 1;
+    }
+    laws::Lowest::Nowhere
+}
+
+// Half a name's area as one number: eight bytes compare at once.
+pub fn key(head: &[u8], at: usize) -> usize
+    requires { ⌜ at + 8 ≤ length (now head) ⌝ }
+    ensures { λ r. ⌜ Key (bytes (now (head .entry))) at r ⌝ }
+{
+    blocks::number4(head, at) + 4294967296 * blocks::number4(head, at + 4)
+}
+
+// Whether a slot is used and its name's two halves have these keys.
+fn has_keys(head: &[u8], layout: layout::Layout, slot: usize, low: usize, high: usize) -> bool
+    requires { ⌜ slotOffset layout slot + 24 ≤ length (now head) ⌝ }
+    ensures { λ r. ⌜ r ≡ hasKeys layout (bytes (now (head .entry))) slot low high ⌝ }
+{
+    let at = layout.directory + 24 * slot;
+    if key(head, at) != low {
+        return false;
+    }
+    if key(head, at + 8) != high {
+        return false;
+    }
+    is_used(head, layout, slot)
+}
+
+// The lowest used slot whose name's area has these keys.
+pub fn find_keys(head: &[u8], layout: layout::Layout, low: usize, high: usize) -> laws::Lowest
+    requires { ⌜ slotOffset layout (layout .slots) ≤ length (now head) ⌝ }
+    ensures { λ r. ⌜ r ≡ lowest (λ s. hasKeys layout (bytes (now (head .entry))) s low high) 0 (layout .slots) ⌝ }
+{
+    let slots = layout.slots;
+    let mut slot = 0;
+    while slot < slots {
+        if has_keys(head, layout, slot, low, high) {
+            return laws::Lowest::At(slot);
+        }
+        slot += 1;
+    }
+    laws::Lowest::Nowhere
+}
+
+// Whether a slot is used and its name stands in a lower used slot. Its keys are read once.
+fn is_repeated(head: &[u8], layout: layout::Layout, slot: usize) -> bool
+    requires { ⌜ slotOffset layout slot + 24 ≤ length (now head) ⌝ }
+    ensures { λ r. ⌜ r ≡ repeated layout (viewOf layout (bytes (now (head .entry)))) slot ⌝ }
+{
+    if !is_used(head, layout, slot) {
+        return false;
+    }
+    let at = layout.directory + 24 * slot;
+    let low = key(head, at);
+    let high = key(head, at + 8);
+    let mut lower = 0;
+    while lower < slot {
+        if has_keys(head, layout, lower, low, high) {
+            return true;
+        }
+        lower += 1;
+    }
+    false
+}
+
+// The lowest slot whose name stands in a lower used slot (refusal 5).
+pub fn name_fault(head: &[u8], layout: layout::Layout) -> laws::Lowest
+    requires { ⌜ LayoutRight layout × (slotOffset layout (layout .slots) ≤ length (now head)) ⌝ }
+    ensures { λ r. ⌜ r ≡ lowest (repeated layout (viewOf layout (bytes (now (head .entry))))) 0 (layout .slots) ⌝ }
+{
+    let end = layout.slots;
+    let mut slot = 0;
+    while slot < end {
+        if is_repeated(head, layout, slot) {
+            return laws::Lowest::At(slot);
+        }
+        slot += 1;
+    }
+    laws::Lowest::Nowhere
+}
+
+// The lowest empty slot.
+pub fn empty_slot(head: &[u8], layout: layout::Layout) -> laws::Lowest
+    requires { ⌜ slotOffset layout (layout .slots) ≤ length (now head) ⌝ }
+    ensures { λ r. ⌜ r ≡ lowest (λ s. not (used (viewOf layout (bytes (now (head .entry))) .entry s))) 0 (layout .slots) ⌝ }
+{
+    let slots = layout.slots;
+    let mut slot = 0;
+    while slot < slots {
+        if !is_used(head, layout, slot) {
+            return laws::Lowest::At(slot);
+        }
+        slot += 1;
+    }
+    laws::Lowest::Nowhere
+}
+
+// The number of used slots.
+pub fn count_used(head: &[u8], layout: layout::Layout) -> usize
+    requires { ⌜ LayoutRight layout × (slotOffset layout (layout .slots) ≤ length (now head)) ⌝ }
+    ensures { λ r. ⌜ r ≡ usedCount layout (viewOf layout (bytes (now (head .entry)))) ⌝ }
+{
+    let slots = layout.slots;
+    let mut count = 0;
+    let mut slot = 0;
+    while slot < slots {
+        if is_used(head, layout, slot) {
+            count += 1;
+        }
+        slot += 1;
+    }
+    count
 }

@@ -1,0 +1,52 @@
+-- `slots::form_fault` meets its contract: the lowest malformed slot of those left is that of all.
+-- One search, by its laws. Assumes nothing.
+use Prim.Native.Nat.{_-_}
+use native.Mathlib.Omega.{arith}
+use borrow.Author.Needs.{needs}
+use Rattle.laws.specs.Reader.{bytes}
+use Rattle.view.specs.Rules.{malformed}
+use Rattle.image.specs.Image.{viewOf}
+use Rattle.laws.specs.Search.{Searched, searched-none, searched-found, searched-more, searched-all}
+use Rattle.slots.proofs.form_fault.Statement.{statement}
+use Rattle.slots.proofs.form_fault.Tie as tie
+
+abbrev Inv-loop : tie.InvT-loop
+Inv-loop head layout slots slot₀ slot = Searched (malformed layout (viewOf layout (bytes head))) slots slot
+
+abbrev μ-loop : tie.MeasureT-loop
+μ-loop head layout slots slot₀ slot = slots - slot
+
+is-malformed-requires : tie.Need-is-malformed-requires Inv-loop μ-loop
+is-malformed-requires c κs = search needs
+
+add-slot : tie.Need-add-slot Inv-loop μ-loop
+add-slot c = search needs
+
+loop-less : tie.Need-loop-less Inv-loop μ-loop
+loop-less c = search needs
+
+loop-holds : tie.Need-loop-holds Inv-loop μ-loop
+loop-holds c = searched-none _ _
+
+returns : tie.Need-returns Inv-loop μ-loop
+returns c = searched-found _ _ _ (c .before .before .before .loop .inv) (omega arith) (c .before .is-malformed .ensures) (c .if1 .taken)
+
+loop-again : tie.Need-loop-again Inv-loop μ-loop
+loop-again c = searched-more _ _ _ (c .before .before .before .loop .inv) (omega arith) (c .before .is-malformed .ensures) (c .if1 .left)
+
+returns-2 : tie.Need-returns-2 Inv-loop μ-loop
+returns-2 c = searched-all _ _ _ (c .before .loop .inv) (omega arith)
+
+pub form-fault-spec : {M : Type 1} → statement M
+form-fault-spec =
+    tie.close
+    (tie.spec
+    Inv-loop
+    μ-loop
+    loop-holds
+    is-malformed-requires
+    returns
+    add-slot
+    loop-less
+    loop-again
+    returns-2)

@@ -1,0 +1,86 @@
+-- `slots::has_keys` meets its contract: the two comparisons and the type byte are the three tests.
+-- A comparison that fails decides alone; past both, the type byte does. Assumes nothing.
+use mathlib.Core.Path.{_≡_, refl, sym, _∙_}
+use mathlib.Core.Bool.{false}
+use Prim.Native.Nat.{ℕ, _+_}
+use lib.Dec.{eqb}
+use borrow.Author.Needs.{needs}
+use borrow.Author.Tests.{eq-eqb, ne-eqb}
+use denote.Ref.{now}
+use Rattle.laws.specs.Truth.{false-both, true-both}
+use Rattle.laws.specs.Reader.{bytes}
+use Rattle.layout.specs.declared.Layout.{Layout}
+use Rattle.layout.specs.Layouts.{slotOffset}
+use Rattle.blocks.specs.Numbers.{number}
+use Rattle.view.specs.Disk.{used}
+use Rattle.image.specs.Image.{entryAt}
+use Rattle.slots.specs.Keys.{hasKeys, both-when}
+use Rattle.slots.proofs.has_keys.Statement.{statement}
+use Rattle.slots.proofs.has_keys.Tie as tie
+
+-- x and y are the slot's keys
+module _ (l : Layout) (b : ℕ → ℕ) (s low high : ℕ) where
+  other-low : {x : ℕ} → x ≡ number 8 b (slotOffset l s) → (x ≡ low → ⊥) → hasKeys l b s low high ≡ false
+  unfolding hasKeys
+  other-low e n = false-both (used (entryAt b (slotOffset l s))) _ (λ u. rw (ne-eqb (number 8 b (slotOffset l s)) low (λ q. n (e ∙ q))) refl)
+
+  other-high : {y : ℕ} → y ≡ number 8 b (slotOffset l s + 8) → (y ≡ high → ⊥) → hasKeys l b s low high ≡ false
+  unfolding hasKeys
+  other-high e n =
+      false-both (used (entryAt b (slotOffset l s))) _
+      (λ u. false-both (eqb (number 8 b (slotOffset l s)) low) _ (λ v. ne-eqb (number 8 b (slotOffset l s + 8)) high (λ q. n (e ∙ q))))
+
+  both-keys : {x y : ℕ} → x ≡ number 8 b (slotOffset l s) → x ≡ low → y ≡ number 8 b (slotOffset l s + 8) → y ≡ high → hasKeys l b s low high ≡ used (entryAt b (slotOffset l s))
+  unfolding hasKeys
+  both-keys e p f q =
+      both-when (used (entryAt b (slotOffset l s))) _ (true-both _ _ (eq-eqb (number 8 b (slotOffset l s)) low (sym e ∙ p)) (eq-eqb (number 8 b (slotOffset l s + 8)) high (sym f ∙ q)))
+
+mul-at : tie.Need-mul-at
+mul-at c = search needs
+
+add-at : tie.Need-add-at
+add-at c = search needs
+
+key-requires : tie.Need-key-requires
+key-requires c κs = search needs
+
+returns : tie.Need-returns
+returns c =
+    let a = c .before .before .before .before .args in
+    sym (other-low (a .layout) (bytes (now (a .head))) (a .slot) (a .low) (a .high) (c .before .key .ensures .value) (c .if1 .taken))
+
+add-key : tie.Need-add-key
+add-key c = search needs
+
+key-requires-2 : tie.Need-key-requires-2
+key-requires-2 c κs = search needs
+
+returns-2 : tie.Need-returns-2
+returns-2 c =
+    let a = c .before .before .before .before .before .before .args in
+    sym (other-high (a .layout) (bytes (now (a .head))) (a .slot) (a .low) (a .high) (c .before .key2 .ensures .value) (c .if2 .taken))
+
+is-used-requires : tie.Need-is-used-requires
+is-used-requires c κs = search needs
+
+returns-3 : tie.Need-returns-3
+returns-3 c =
+    let a = c .before .before .before .before .before .before .before .args in
+    let high = c .before .before in
+    let low = high .before .before in
+    c .is-used .ensures
+    ∙ sym (both-keys (a .layout) (bytes (now (a .head))) (a .slot) (a .low) (a .high) (low .key .ensures .value) (high .before .if1 .left) (high .key2 .ensures .value) (c .before .if2 .left))
+
+pub has-keys-spec : {M : Type 1} → statement M
+has-keys-spec =
+    tie.close
+    (tie.spec
+    mul-at
+    add-at
+    key-requires
+    returns
+    add-key
+    key-requires-2
+    returns-2
+    is-used-requires
+    returns-3)
