@@ -1,0 +1,180 @@
+-- `chains::chain_fault` meets its contract: the rest of a chain's walk answers as the whole, and the slots left answer as all.
+-- Each way out of a loop and each turn is one law of a walk's steps or of a search. Assumes nothing.
+use mathlib.Core.Path.{_≡_, refl, sym, ap, _∙_}
+use mathlib.Core.Bool.{true, false, not}
+use Prim.Native.Nat.{ℕ, _-_, _<_}
+use native.Mathlib.Nat.{sub-zero}
+use native.Mathlib.Omega.{arith}
+use borrow.Author.Needs.{needs}
+use borrow.Author.Tests.{not-true, not-false}
+use Rattle.laws.specs.Truth.{true-both, false-both}
+use Rattle.laws.specs.Reader.{bytes}
+use Rattle.laws.specs.Scan.{lowest, lowest-end, lowest-stop, lowest-on}
+use Rattle.laws.specs.declared.Lowest.the-variants.{At}
+use Rattle.layout.specs.declared.Layout.{Layout}
+use Rattle.blocks.specs.Blocks.{linksFor}
+use Rattle.map.specs.declared.Walk.{Walk}
+use Rattle.map.specs.declared.Walk.the-variants.{Whole, Bad, Cut}
+use Rattle.map.specs.Map.{mapAt, isLink, walk, isWhole, faultOf}
+use Rattle.map.specs.Walks.{link-data, walk-bad, walk-whole, walk-over, walk-cut, walk-on}
+use Rattle.view.specs.declared.Ruled.the-variants.{Pass, Fail}
+use Rattle.view.specs.Disk.{View, used}
+use Rattle.view.specs.Rules.{walkOf, broken, orFail}
+use Rattle.image.specs.Image.{viewOf}
+use Rattle.chains.proofs.chain_fault.Statement.{statement}
+use Rattle.chains.proofs.chain_fault.Tie as tie
+
+-- ---- a slot's walk and the search's test
+
+module _ (l : Layout) (v : View) (s : ℕ) where
+  walk-starts : (k b : ℕ) → k ≡ linksFor (v .entry s .size) → b ≡ v .entry s .start → walkOf l v s ≡ walk l (v .map) k b
+  unfolding walkOf
+  walk-starts k b x y = rw (x, y)
+
+  empty-sound : used (v .entry s) ≡ false → broken l v s ≡ false
+  unfolding broken
+  empty-sound e = rw e
+
+  whole-sound : walkOf l v s ≡ Whole → broken l v s ≡ false
+  unfolding broken
+  whole-sound e = false-both (used (v .entry s)) (not (isWhole (walkOf l v s))) (λ u. ap (λ (w : Walk). not (isWhole w)) e)
+
+  -- the lowest slot whose walk is not whole is the fault, by the refusal of its walk
+  stop-at : (n : ℕ) (w : Walk) → s < n → used (v .entry s) ≡ true → walkOf l v s ≡ w → isWhole w ≡ false → lowest (broken l v) 0 n ≡ lowest (broken l v) s (n - s)
+      → Fail (faultOf w) s ≡ orFail (λ t. faultOf (walkOf l v t)) (lowest (broken l v) 0 n) Pass
+  stop-at n w h u e f i =
+      let bad : broken l v s ≡ true = unfold broken in true-both (used (v .entry s)) (not (isWhole (walkOf l v s))) u (ap (λ (x : Walk). not (isWhole x)) e ∙ ap not f) in
+      let found : lowest (broken l v) 0 n ≡ At s = i ∙ lowest-stop (broken l v) s n h bad in
+      rw (found, e)
+
+abbrev Inv-loop : tie.InvT-loop
+Inv-loop head layout end mark next slot left₀ block₀ place left block = walkOf layout (viewOf layout (bytes head)) slot ≡ walk layout (mapAt (bytes head)) left block
+
+abbrev μ-loop : tie.MeasureT-loop
+μ-loop head layout end mark next slot left₀ block₀ place left block = left
+
+abbrev Inv-slots : tie.InvT-slots
+Inv-slots head layout end mark next₀ next =
+    lowest (broken layout (viewOf layout (bytes head))) 0 end ≡ lowest (broken layout (viewOf layout (bytes head))) next (end - next)
+
+abbrev μ-slots : tie.MeasureT-slots
+μ-slots head layout end mark next₀ next = end - next
+
+slots-holds : tie.Need-slots-holds Inv-loop μ-loop Inv-slots μ-slots
+slots-holds c = rw sub-zero
+
+add-next : tie.Need-add-next Inv-loop μ-loop Inv-slots μ-slots
+add-next c = search needs
+
+is-used-requires : tie.Need-is-used-requires Inv-loop μ-loop Inv-slots μ-slots
+is-used-requires c κs = search needs
+
+slots-less : tie.Need-slots-less Inv-loop μ-loop Inv-slots μ-slots
+slots-less c = search needs
+
+links-of-requires : tie.Need-links-of-requires Inv-loop μ-loop Inv-slots μ-slots
+links-of-requires c κs = search needs
+
+start-of-requires : tie.Need-start-of-requires Inv-loop μ-loop Inv-slots μ-slots
+start-of-requires c κs = search needs
+
+is-link-requires : tie.Need-is-link-requires Inv-loop μ-loop Inv-slots μ-slots
+is-link-requires c κs = search needs
+
+slots-less-2 : tie.Need-slots-less-2 Inv-loop μ-loop Inv-slots μ-slots
+slots-less-2 c = search needs
+
+sub-left : tie.Need-sub-left Inv-loop μ-loop Inv-slots μ-slots
+sub-left c = search needs
+
+loop-less : tie.Need-loop-less Inv-loop μ-loop Inv-slots μ-slots
+loop-less c = search needs
+
+-- ---- the slots
+
+slots-again : tie.Need-slots-again Inv-loop μ-loop Inv-slots μ-slots
+slots-again c =
+    let d = c .before .before in
+    d .before .slots .inv ∙ lowest-on _ _ _ (d .if1 .left) (empty-sound _ _ _ (sym (c .before .is-used .ensures) ∙ not-true _ (c .if2 .taken)))
+
+loop-holds : tie.Need-loop-holds Inv-loop μ-loop Inv-slots μ-slots
+loop-holds c = walk-starts _ _ _ _ _ (c .before .links-of .ensures) (c .start-of .ensures)
+
+returns : tie.Need-returns Inv-loop μ-loop Inv-slots μ-slots
+returns c = let e = c .before .slots .inv ∙ lowest-end _ _ _ (c .if1 .taken) in rw e
+
+-- ---- a chain's blocks
+
+-- past the first test the block is a data block
+linked : (c : tie.Else3 Inv-loop μ-loop Inv-slots μ-slots)
+    → isLink (c .before .before .before .before .before .before .before .before .before .before .args .layout) (c .before .before .loop .block) ≡ true
+linked c = sym (c .before .is-link .ensures) ∙ not-false _ (c .if3 .left)
+
+map-at-requires : tie.Need-map-at-requires Inv-loop μ-loop Inv-slots μ-slots
+map-at-requires c κs = omega (arith, link-data _ _ (linked c) .1)
+
+slots-again-2 : tie.Need-slots-again-2 Inv-loop μ-loop Inv-slots μ-slots
+slots-again-2 c =
+    let d = c .before .before in
+    let e = d .before .before .before in
+    let o = e .before .before .before .before .before in
+    o .before .slots .inv ∙ lowest-on _ _ _ (o .if1 .left)
+    (whole-sound _ _ _ (e .loop .inv ∙ walk-whole _ _ _ _ _ (linked (d .before)) (d .map-at .ensures) (c .before .if4 .taken) (c .if5 .taken)))
+
+loop-again : tie.Need-loop-again Inv-loop μ-loop Inv-slots μ-slots
+loop-again c =
+    let d = c .before .before in
+    d .before .before .before .loop .inv ∙ walk-on _ _ _ _ _ (linked (d .before)) (d .map-at .ensures) (c .before .if4 .left) (c .if6 .left)
+
+-- a walk that isn't whole ends the search
+stopped : (c : tie.At-loop Inv-loop μ-loop Inv-slots μ-slots) (w : Walk)
+    → (let a = c .before .before .before .before .before .before .before .before .args in
+    let v = viewOf (a .layout) (bytes (a .head .now)) in
+    let s = c .before .before .before .before .before .before .slots .next in
+    walk (a .layout) (mapAt (bytes (a .head .now))) (c .loop .left) (c .loop .block) ≡ w → isWhole w ≡ false
+    → Fail (faultOf w) s ≡ orFail (λ t. faultOf (walkOf (a .layout) v t)) (lowest (broken (a .layout) v) 0 (a .layout .slots)) Pass)
+stopped c w e f =
+    let u = c .before .before .before in
+    let o = u .before .before in
+    stop-at _ _ _ _ w (o .if1 .left) (sym (u .before .is-used .ensures) ∙ not-false _ (u .if2 .left)) (c .loop .inv ∙ e) f (o .before .slots .inv)
+
+returns-2 : tie.Need-returns-2 Inv-loop μ-loop Inv-slots μ-slots
+returns-2 c = stopped (c .before .before) Bad (walk-bad _ _ _ _ (sym (c .before .is-link .ensures) ∙ not-true _ (c .if3 .taken))) refl
+
+returns-3 : tie.Need-returns-3 Inv-loop μ-loop Inv-slots μ-slots
+returns-3 c =
+    let d = c .before .before in
+    stopped (d .before .before .before) Cut (walk-over _ _ _ _ _ (linked (d .before)) (d .map-at .ensures) (c .before .if4 .taken) (c .if5 .left)) refl
+
+returns-4 : tie.Need-returns-4 Inv-loop μ-loop Inv-slots μ-slots
+returns-4 c =
+    let d = c .before .before in
+    stopped (d .before .before .before) Cut (walk-cut _ _ _ _ _ (linked (d .before)) (d .map-at .ensures) (c .before .if4 .left) (c .if6 .taken)) refl
+
+pub chain-fault-spec : {M : Type 1} → statement M
+chain-fault-spec =
+    tie.close
+    (tie.spec
+    Inv-loop
+    μ-loop
+    Inv-slots
+    μ-slots
+    slots-holds
+    add-next
+    is-used-requires
+    slots-less
+    slots-again
+    links-of-requires
+    start-of-requires
+    loop-holds
+    is-link-requires
+    map-at-requires
+    slots-less-2
+    slots-again-2
+    sub-left
+    loop-less
+    loop-again
+    returns
+    returns-2
+    returns-3
+    returns-4)

@@ -1,0 +1,66 @@
+-- `chains::count_free` meets its contract: the free blocks counted and those of the blocks left are all of them.
+-- Each turn is one law of a count. Assumes nothing.
+use mathlib.Core.Path.{_≡_, sym, _∙_}
+use mathlib.Core.Bool.{Bool}
+use mathlib.Core.List.{List}
+use mathlib.Core.Logic.{⊎-elim}
+use Prim.Native.Nat.{ℕ, _+_, _-_, _≤_}
+use native.Mathlib.Omega.{arith}
+use lib.Dec.{eqb}
+use borrow.Author.Needs.{needs}
+use borrow.Author.Tests.{eq-eqb, ne-eqb}
+use Rattle.laws.specs.Reader.{bytes}
+use Rattle.laws.specs.Scan.{count, count-end, count-stop, count-on}
+use Rattle.map.specs.Map.{mapAt, freeCount}
+use Rattle.chains.proofs.count_free.Statement.{statement}
+use Rattle.chains.proofs.count_free.Tie as tie
+
+abbrev isFree : List ℕ → ℕ → Bool
+isFree head block = eqb (mapAt (bytes head) block) 0
+
+abbrev Inv-loop : tie.InvT-loop
+Inv-loop head end free₀ block₀ free block = (free ≤ block) × (free + count (isFree head) block (end - block) ≡ count (isFree head) block₀ (end - block₀))
+
+abbrev μ-loop : tie.MeasureT-loop
+μ-loop head end free₀ block₀ free block = end - block
+
+loop-holds : tie.Need-loop-holds Inv-loop μ-loop
+loop-holds c = search needs
+
+map-at-requires : tie.Need-map-at-requires Inv-loop μ-loop
+map-at-requires c κs = search needs
+
+add-free : tie.Need-add-free Inv-loop μ-loop
+add-free c = search needs
+
+add-block : tie.Need-add-block Inv-loop μ-loop
+add-block c = search needs
+
+loop-less : tie.Need-loop-less Inv-loop μ-loop
+loop-less c = search needs
+
+loop-again : tie.Need-loop-again Inv-loop μ-loop
+loop-again c =
+    let d = c .before .before in
+    let free = isFree (d .before .before .before .args .head .now) in
+    let e = c .before .map-at .ensures in
+    ⊎-elim (λ w. (omega arith, omega (arith, count-stop free _ _ (d .loop-test .taken) (eq-eqb _ _ (sym e ∙ w .0 .taken)))))
+    (λ w. (omega arith, omega (arith, count-on free _ _ (d .loop-test .taken) (ne-eqb _ _ (λ z. w .0 .left (e ∙ z)))))) (c .if1 .came)
+
+returns : tie.Need-returns Inv-loop μ-loop
+unfolding freeCount
+returns c = omega (arith, count-end (isFree (c .before .before .before .args .head .now)) _ _ (c .loop-test .left))
+
+pub count-free-spec : {M : Type 1} → statement M
+count-free-spec =
+    tie.close
+    (tie.spec
+    Inv-loop
+    μ-loop
+    loop-holds
+    map-at-requires
+    add-free
+    add-block
+    loop-less
+    loop-again
+    returns)

@@ -1,0 +1,17 @@
+-- What the pass over all chains leaves.
+-- Assumes nothing.
+use mathlib.Core.Path.{_≡_}
+use mathlib.Core.Bool.{Bool}
+use mathlib.Core.List.{List}
+use Rattle.laws.specs.Scan.{lowest}
+use Rattle.laws.specs.declared.Lowest.{Lowest}
+use Rattle.laws.specs.declared.Lowest.the-variants.{Nowhere}
+use Rattle.layout.specs.declared.Layout.{Layout}
+use Rattle.map.specs.Marks.{Marks}
+use Rattle.view.specs.Disk.{View, owned}
+use Rattle.view.specs.Rules.{sharing}
+
+-- The lowest slot that shares a block, and, where there is none, the marks of all chains.
+pub record Claimed (l : Layout) (v : View) (marks : List Bool) (r : Lowest) : Type 0 where
+  pub place : r ≡ lowest (sharing l v) 0 (l .slots)
+  pub marks-all : r ≡ Nowhere → Marks 1600 marks (owned v (l .slots))

@@ -1,0 +1,158 @@
+// The map of an image's head: refusals 3 and 6 to 9, and the free blocks counted.
+// Only the check calls these; that directory and map lie in the head is shown by its length.
+ghost use mathlib.Core.Path.{_≡_};
+ghost use mathlib.Core.Bool.{false};
+ghost use Prim.Native.Nat.{_+_, _-_, _≤_, _<_};
+ghost use lib.ListN.{length, replicate};
+ghost use Rattle.laws.specs.Reader.{bytes};
+ghost use Rattle.laws.specs.Scan.{lowest};
+ghost use Rattle.laws.specs.declared.Lowest.the-variants.{Nowhere};
+ghost use Rattle.layout.specs.Layouts.{slotOffset, mapOffset, blockOffset};
+ghost use Rattle.layout.specs.Right.{LayoutRight};
+ghost use Rattle.blocks.specs.Blocks.{linksFor};
+ghost use Rattle.map.specs.Map.{mapAt, freeCount, faultOf};
+ghost use Rattle.map.specs.Marks.{Marks};
+ghost use Rattle.view.specs.declared.Ruled.the-variants.{Pass};
+ghost use Rattle.view.specs.Disk.{owned};
+ghost use Rattle.view.specs.Rules.{badSystem, walkOf, broken, sharing, stray, orFail};
+ghost use Rattle.image.specs.Image.{viewOf};
+ghost use Rattle.chains.specs.Passes.{Claimed};
+
+// The lowest system block that doesn't hold the system value (refusal 3).
+pub fn system_fault(head: &[u8], layout: layout::Layout) -> laws::Lowest
+    requires { ⌜ LayoutRight layout × (blockOffset (layout .first) ≤ length (now head)) ⌝ }
+    ensures { λ r. ⌜ r ≡ lowest (badSystem layout (viewOf layout (bytes (now (head .entry))))) 0 (layout .system) ⌝ }
+{
+    let end = layout.system;
+    let reserved = layout.reserved;
+    let mut block = 0;
+    while block < end {
+        if map::map_at(head, block) != reserved {
+            return laws::Lowest::At(block);
+        }
+        block += 1;
+    }
+    laws::Lowest::Nowhere
+}
+
+// How many blocks of a slot's chain come after the first.
+fn links_of(head: &[u8], layout: layout::Layout, slot: usize) -> usize
+    requires { ⌜ slotOffset layout slot + 24 ≤ length (now head) ⌝ }
+    ensures { λ r. ⌜ r ≡ linksFor (viewOf layout (bytes (now (head .entry))) .entry slot .size) ⌝ }
+{
+    let size = slots::size_of(head, layout, slot);
+    if size == 0 {
+        return 0;
+    }
+    (size - 1) / 1024
+}
+
+// The lowest slot whose chain has a fault, refused by the chain's first one (6 or 7).
+pub fn chain_fault(head: &[u8], layout: layout::Layout) -> view::Ruled
+    requires { ⌜ LayoutRight layout × (blockOffset (layout .first) ≤ length (now head)) ⌝ }
+    ensures { λ r. ⌜ r ≡ orFail (λ s. faultOf (walkOf layout (viewOf layout (bytes (now (head .entry)))) s)) (lowest (broken layout (viewOf layout (bytes (now (head .entry))))) 0 (layout .slots)) Pass ⌝ }
+{
+    let end = layout.slots;
+    let mark = layout.mark;
+    let mut next = 0;
+    let fault = 'slots: loop {
+        if end <= next {
+            break 'slots view::Ruled::Pass;
+        }
+        let slot = next;
+        next += 1;
+        if !slots::is_used(head, layout, slot) {
+            continue 'slots;
+        }
+        let mut left = links_of(head, layout, slot);
+        let mut block = slots::start_of(head, layout, slot);
+        let place = slot;
+        loop {
+            if !map::is_link(layout, block) {
+                break 'slots view::Ruled::Fail { number: 6, place };
+            }
+            let value = map::map_at(head, block);
+            if left == 0 {
+                if value == mark {
+                    continue 'slots;
+                }
+                break 'slots view::Ruled::Fail { number: 7, place };
+            }
+            if value == mark {
+                break 'slots view::Ruled::Fail { number: 7, place };
+            }
+            block = value;
+            left -= 1;
+        }
+    };
+    fault
+}
+
+// The lowest slot whose chain shares a block with a lower slot's (refusal 8). The marks are left as those of all chains where
+// there is none.
+pub fn share_fault(head: &[u8], layout: layout::Layout, marks: &mut [bool; 1600]) -> laws::Lowest
+    requires { ⌜ LayoutRight layout × (blockOffset (layout .first) ≤ length (now head)) × (lowest (broken layout (viewOf layout (bytes (now head)))) 0 (layout .slots) ≡ Nowhere) × (now marks ≡ replicate 1600 false) ⌝ }
+    ensures { λ r. ⌜ Claimed layout (viewOf layout (bytes (now (head .entry)))) (now (marks .exit)) r ⌝ }
+{
+    let end = layout.slots;
+    let mut next = 0;
+    while next < end {
+        let slot = next;
+        next += 1;
+        if !slots::is_used(head, layout, slot) {
+            continue;
+        }
+        let links = links_of(head, layout, slot);
+        let start = slots::start_of(head, layout, slot);
+        if map::touches(head, layout, marks, links, start) {
+            return laws::Lowest::At(slot);
+        }
+        map::mark_chain(head, layout, marks, links, start);
+    }
+    laws::Lowest::Nowhere
+}
+
+// Whether a data block has a nonzero map value and is on no chain.
+fn is_stray(head: &[u8], layout: layout::Layout, marks: &[bool; 1600], block: usize) -> bool
+    requires { ⌜ (mapOffset block + 2 ≤ length (now head)) × (block < 1600) × Marks 1600 (now marks) (owned (viewOf layout (bytes (now head))) (layout .slots)) ⌝ }
+    ensures { λ r. ⌜ r ≡ stray layout (viewOf layout (bytes (now (head .entry)))) block ⌝ }
+{
+    if map::map_at(head, block) == 0 {
+        return false;
+    }
+    !marks[block]
+}
+
+// The lowest data block with a nonzero map value that is on no chain (refusal 9); the marks are those of all chains.
+pub fn stray_fault(head: &[u8], layout: layout::Layout, marks: &[bool; 1600]) -> laws::Lowest
+    requires { ⌜ LayoutRight layout × (blockOffset (layout .first) ≤ length (now head)) × Marks 1600 (now marks) (owned (viewOf layout (bytes (now head))) (layout .slots)) ⌝ }
+    ensures { λ r. ⌜ r ≡ lowest (stray layout (viewOf layout (bytes (now (head .entry))))) (layout .first) (layout .blocks - layout .first) ⌝ }
+{
+    let first = layout.first;
+    let last = layout.blocks - 1;
+    let mut block = first;
+    while block <= last {
+        if is_stray(head, layout, marks, block) {
+            return laws::Lowest::At(block);
+        }
+        block += 1;
+    }
+    laws::Lowest::Nowhere
+}
+
+// The number of free blocks.
+pub fn count_free(head: &[u8], layout: layout::Layout) -> usize
+    requires { ⌜ LayoutRight layout × (blockOffset (layout .first) ≤ length (now head)) ⌝ }
+    ensures { λ r. ⌜ r ≡ freeCount layout (mapAt (bytes (now (head .entry)))) ⌝ }
+{
+    let end = layout.blocks;
+    let mut free = 0;
+    let mut block = layout.first;
+    while block < end {
+        if map::map_at(head, block) == 0 {
+            free += 1;
+        }
+        block += 1;
+    }
+    free
+}
