@@ -1,0 +1,74 @@
+-- `disk::check_kinds` meets its contract: S900 if every slot has its identity, else S1000 if every slot has that, else refusal 2.
+-- By the two tests. Assumes nothing.
+use mathlib.Core.Path.{_≡_, ap, _∙_}
+use denote.Ref.{now}
+use borrow.Author.Needs.{needs}
+use Rattle.laws.specs.Reader.{bytes}
+use Rattle.layout.specs.declared.Kind.the-variants.{S900, S1000}
+use Rattle.layout.specs.declared.Layout.{Layout}
+use Rattle.layout.specs.Layouts.{layoutOf}
+use Rattle.rules.specs.Check.{hasIdentity}
+use Rattle.disk.specs.Steps.{directory-held, kinds-900, kinds-1000, kinds-none}
+use Rattle.disk.proofs.check_kinds.Statement.{statement}
+use Rattle.disk.proofs.check_kinds.Tie as tie
+
+layout-of-requires : tie.Need-layout-of-requires
+layout-of-requires c κs = search needs
+
+has-identity-requires : tie.Need-has-identity-requires
+has-identity-requires c κs =
+    let p = c .before .before in
+    directory-held S900 (p .args .density) (c .layout-of .ensures) (p .pre)
+
+check-as-requires : tie.Need-check-as-requires
+check-as-requires c κs = search needs
+
+-- the two tests are of the kinds' identities
+first : (c : tie.After-has-identity) → let a = c .before .before .before .args in
+    c .has-identity .result ≡ hasIdentity (layoutOf S900 (a .density)) (bytes (now (a .head)))
+first c = c .has-identity .ensures ∙ ap (λ (l : Layout). hasIdentity l (bytes (now (c .before .before .before .args .head)))) (c .before .layout-of .ensures)
+
+second : (c : tie.After-has-identity2) → let a = c .before .before .before .before .before .before .args in
+    c .has-identity2 .result ≡ hasIdentity (layoutOf S1000 (a .density)) (bytes (now (a .head)))
+second c = c .has-identity2 .ensures ∙ ap (λ (l : Layout). hasIdentity l (bytes (now (c .before .before .before .before .before .before .args .head)))) (c .before .layout-of2 .ensures)
+
+returns : tie.Need-returns
+returns c =
+    c .check-as .ensures ∙ kinds-900 _ _ (first (c .before .before)) (c .before .if1 .taken)
+
+layout-of-requires-2 : tie.Need-layout-of-requires-2
+layout-of-requires-2 c κs = search needs
+
+has-identity-requires-2 : tie.Need-has-identity-requires-2
+has-identity-requires-2 c κs =
+    let p = c .before .before .before .before .before in
+    directory-held S1000 (p .args .density) (c .layout-of2 .ensures) (p .pre)
+
+check-as-requires-2 : tie.Need-check-as-requires-2
+check-as-requires-2 c κs = search needs
+
+returns-2 : tie.Need-returns-2
+returns-2 c =
+    let h = c .before .before in
+    let g = h .before .before .before in
+    c .check-as2 .ensures ∙ kinds-1000 _ _ (first g) (h .before .before .if1 .left) (second h) (c .before .if2 .taken)
+
+returns-3 : tie.Need-returns-3
+returns-3 c =
+    let h = c .before in
+    let g = h .before .before .before in
+    kinds-none _ _ (first g) (h .before .before .if1 .left) (second h) (c .if2 .left)
+
+pub check-kinds-spec : {M : Type 1} → statement M
+check-kinds-spec =
+    tie.close
+    (tie.spec
+    layout-of-requires
+    has-identity-requires
+    check-as-requires
+    returns
+    layout-of-requires-2
+    has-identity-requires-2
+    check-as-requires-2
+    returns-2
+    returns-3)

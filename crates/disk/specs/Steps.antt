@@ -1,0 +1,174 @@
+-- The check's definitions in the steps in which the code takes them.
+-- Each step is a part of `rules` or of `checkHead`, cut out by name; a refusal or the next step by what a search found. Assumes nothing.
+use mathlib.Core.Path.{_≡_, refl, sym, ap, _∙_}
+use mathlib.Core.Bool.{Bool, true, false}
+use mathlib.Core.List.{List}
+use mathlib.Core.Option.{Option, none, some}
+use Prim.Native.Nat.{ℕ, _-_, _≤_, _<_, min}
+use native.Mathlib.Omega.{arith}
+use lib.Dec.{ltb, eqb}
+use lib.ListN.{length}
+use borrow.Author.Tests.{eq-eqb, ne-eqb, le-ltb, ltb-false}
+use Rattle.laws.specs.Truth.{pick}
+use Rattle.laws.specs.Scan.{lowest}
+use Rattle.laws.specs.Reader.{bytes}
+use Rattle.laws.specs.declared.Lowest.{Lowest}
+use Rattle.laws.specs.declared.Lowest.the-variants.{At, Nowhere}
+use Rattle.layout.specs.declared.Kind.{Kind}
+use Rattle.layout.specs.declared.Kind.the-variants.{S900, S1000}
+use Rattle.layout.specs.declared.Density.{Density}
+use Rattle.layout.specs.declared.Density.the-variants.{Low, High}
+use Rattle.layout.specs.declared.Layout.{Layout}
+use Rattle.layout.specs.Layouts.{layoutOf, lengthOf, blockOffset, slotOffset}
+use Rattle.layout.specs.Right.{LayoutRight, layout-right}
+use Rattle.map.specs.Map.{mapAt, freeCount, faultOf}
+use Rattle.view.specs.declared.Ruled.{Ruled}
+use Rattle.view.specs.declared.Ruled.the-variants.{Pass, Fail}
+use Rattle.view.specs.Disk.{View}
+use Rattle.view.specs.Rules.{orFail, walkOf, broken, sharing, stray, rules, badSystem, malformed, repeated}
+use Rattle.rules.specs.declared.Checked.{Checked}
+use Rattle.rules.specs.declared.Checked.the-variants.{Accepted, Refused}
+use Rattle.rules.specs.Check.{orRefused, densityOf, hasIdentity, kindOf, usedCount, checkAs, checkHead, checkStart}
+use Rattle.rules.specs.Head.{head-holds}
+use Rattle.image.specs.Image.{viewOf}
+
+-- Refusals 6 to 9.
+unfoldable pub chainRules : Layout → View → Ruled
+unfolding lowest broken sharing stray walkOf
+chainRules l v =
+    orFail (λ s. faultOf (walkOf l v s)) (lowest (broken l v) 0 (l .slots))
+    (orFail (λ s. 8) (lowest (sharing l v) 0 (l .slots))
+    (orFail (λ b. 9) (lowest (stray l v) (l .first) (l .blocks - l .first))
+    Pass))
+
+-- Refusal 2, then those of the kind.
+unfoldable pub checkKinds : Density → (ℕ → ℕ) → Checked
+checkKinds d b = orRefused (kindOf d b) 2 (λ k. checkAs k d b)
+
+-- ---- refusals 6 to 9, r being what the code's pass found
+
+fault-stop : (f : ℕ → ℕ) (w : Lowest) (next : Ruled) {r : Ruled} {n p : ℕ} → r ≡ orFail f w Pass → r ≡ Fail n p → r ≡ orFail f w next
+fault-stop f (At k) next e t = e
+fault-stop f Nowhere next e t = absurd (let z : _≡_ {A = ℕ} 0 1 = cc in omega arith)
+
+fault-none : (f : ℕ → ℕ) (w : Lowest) {r : Ruled} → r ≡ orFail f w Pass → r ≡ Pass → w ≡ Nowhere
+fault-none f (At k) e t = absurd (let z : _≡_ {A = ℕ} 0 1 = cc in omega arith)
+fault-none f Nowhere e t = refl
+
+module _ (l : Layout) (v : View) where
+  abbrev Chains : Ruled → Type 0
+  Chains r = r ≡ orFail (λ s. faultOf (walkOf l v s)) (lowest (broken l v) 0 (l .slots)) Pass
+
+  pub chain-faulty : {r : Ruled} {n p : ℕ} → Chains r → r ≡ Fail n p → r ≡ chainRules l v
+  unfolding chainRules
+  chain-faulty e t = fault-stop (λ s. faultOf (walkOf l v s)) (lowest (broken l v) 0 (l .slots)) _ e t
+
+  pub chain-clean : {r : Ruled} → Chains r → r ≡ Pass → lowest (broken l v) 0 (l .slots) ≡ Nowhere
+  chain-clean e t = fault-none (λ s. faultOf (walkOf l v s)) (lowest (broken l v) 0 (l .slots)) e t
+
+  module _ (clean : lowest (broken l v) 0 (l .slots) ≡ Nowhere) {shared : Lowest} (claims : shared ≡ lowest (sharing l v) 0 (l .slots)) where
+    pub chain-shared : {s : ℕ} → shared ≡ At s → Fail 8 s ≡ chainRules l v
+    unfolding chainRules
+    chain-shared t = rw (clean, ← claims, t) refl
+
+    module _ (apart : shared ≡ Nowhere) {found : Lowest} (strays : found ≡ lowest (stray l v) (l .first) (l .blocks - l .first)) where
+      pub chain-stray : {b : ℕ} → found ≡ At b → Fail 9 b ≡ chainRules l v
+      unfolding chainRules
+      chain-stray t = rw (clean, ← claims, apart, ← strays, t) refl
+
+      pub chain-pass : found ≡ Nowhere → Pass ≡ chainRules l v
+      unfolding chainRules
+      chain-pass t = rw (clean, ← claims, apart, ← strays, t) refl
+
+  -- ---- refusals 3 to 5
+
+  module _ {system : Lowest} (first : system ≡ lowest (badSystem l v) 0 (l .system)) where
+    pub rules-system : {k : ℕ} → system ≡ At k → Fail 3 k ≡ rules l v
+    unfolding rules
+    rules-system t = rw (← first, t) refl
+
+    module _ (right : system ≡ Nowhere) {form : Lowest} (second : form ≡ lowest (malformed l v) 0 (l .slots)) where
+      pub rules-form : {s : ℕ} → form ≡ At s → Fail 4 s ≡ rules l v
+      unfolding rules
+      rules-form t = rw (← first, right, ← second, t) refl
+
+      module _ (formed : form ≡ Nowhere) {name : Lowest} (third : name ≡ lowest (repeated l v) 0 (l .slots)) where
+        pub rules-name : {s : ℕ} → name ≡ At s → Fail 5 s ≡ rules l v
+        unfolding rules
+        rules-name t = rw (← first, right, ← second, formed, ← third, t) refl
+
+        pub rules-chains : {r : Ruled} → name ≡ Nowhere → r ≡ chainRules l v → r ≡ rules l v
+        unfolding rules chainRules
+        rules-chains t e = rw (← first, right, ← second, formed, ← third, t) e
+
+-- ---- the kind and the length
+
+-- a layout that the code made: it is right, and its directory and system blocks lie in a head of 5,120 bytes
+module _ (k : Kind) (d : Density) {l : Layout} (made : l ≡ layoutOf k d) where
+  pub made-right : LayoutRight l
+  made-right = rw made (layout-right k d)
+
+  module _ {n : ℕ} (long : 5120 ≤ n) where
+    pub first-held : blockOffset (l .first) ≤ n
+    first-held = let e = head-holds k d in rw made (omega arith)
+
+    pub directory-held : slotOffset l (l .slots) ≤ n
+    directory-held = let e = made-right .directory-low in let f = first-held in omega arith
+
+  -- the check's answer by the rules'
+  module _ (b : ℕ → ℕ) {r : Ruled} (ruled : r ≡ rules l (viewOf l b)) where
+    pub as-pass : {files free : ℕ} → r ≡ Pass → files ≡ usedCount l (viewOf l b) → free ≡ freeCount l (mapAt b) → Accepted k d files free ≡ checkAs k d b
+    unfolding checkAs
+    as-pass t f n = rw (← made, ← ruled, t, f, n) refl
+
+    pub as-fail : {n p : ℕ} → r ≡ Fail n p → Refused n p ≡ checkAs k d b
+    unfolding checkAs
+    as-fail t = rw (← made, ← ruled, t) refl
+
+kind-by : (t u : Bool) (d : Density) (b : ℕ → ℕ) → hasIdentity (layoutOf S900 d) b ≡ t → hasIdentity (layoutOf S1000 d) b ≡ u
+    → kindOf d b ≡ pick t (some S900) (pick u (some S1000) none)
+unfolding kindOf
+kind-by t u d b p q = rw (p, q) refl
+
+module _ (d : Density) (b : ℕ → ℕ) where
+  kinds-are : {k : Option Kind} → kindOf d b ≡ k → orRefused k 2 (λ j. checkAs j d b) ≡ checkKinds d b
+  unfolding checkKinds
+  kinds-are e = ap (λ (k : Option Kind). orRefused k 2 (λ j. checkAs j d b)) (sym e)
+
+  pub kinds-900 : {r : Bool} → r ≡ hasIdentity (layoutOf S900 d) b → r ≡ true → checkAs S900 d b ≡ checkKinds d b
+  kinds-900 e t = kinds-are (kind-by true (hasIdentity (layoutOf S1000 d) b) d b (sym e ∙ t) refl)
+
+  module _ {r : Bool} (e : r ≡ hasIdentity (layoutOf S900 d) b) (t : r ≡ false) {q : Bool} (f : q ≡ hasIdentity (layoutOf S1000 d) b) where
+    pub kinds-1000 : q ≡ true → checkAs S1000 d b ≡ checkKinds d b
+    kinds-1000 u = kinds-are (kind-by false true d b (sym e ∙ t) (sym f ∙ u))
+
+    pub kinds-none : q ≡ false → Refused 2 0 ≡ checkKinds d b
+    kinds-none u = kinds-are (kind-by false false d b (sym e ∙ t) (sym f ∙ u))
+
+module _ (head : List ℕ) (size : ℕ) where
+  none-by : (t u : Bool) → eqb size (lengthOf Low) ≡ t → eqb size (lengthOf High) ≡ u → size < 5120 → densityOf size ≡ none
+  unfolding densityOf
+  none-by t u p q h = rw (ne-eqb size (lengthOf Low) (λ e. omega arith), ne-eqb size (lengthOf High) (λ e. omega arith)) refl
+
+  -- a head that is short: it isn't all that it could be, or the image itself is short
+  pub start-short : length head < 5120 → Refused 1 0 ≡ checkStart head size
+  unfolding checkStart
+  start-short h = go (ltb (length head) (min size 5120)) refl
+    where
+      go : (t : Bool) → ltb (length head) (min size 5120) ≡ t → Refused 1 0 ≡ pick (ltb (length head) (min size 5120)) (Refused 1 0) (checkHead size (bytes head))
+      go true e = rw e refl
+      go false e = rw (e, none-by _ _ refl refl (omega (arith, ltb-false (length head) (min size 5120) e))) refl
+
+  module _ (long : 5120 ≤ length head) where
+    pub start-low : size ≡ lengthOf Low → checkKinds Low (bytes head) ≡ checkStart head size
+    unfolding checkStart checkKinds
+    start-low e = rw (le-ltb (length head) (min size 5120) (omega arith), eq-eqb size (lengthOf Low) e) refl
+
+    pub start-high : size ≡ lengthOf High → checkKinds High (bytes head) ≡ checkStart head size
+    unfolding checkStart checkKinds
+    start-high e =
+        rw (le-ltb (length head) (min size 5120) (omega arith), ne-eqb size (lengthOf Low) (λ z. omega arith), eq-eqb size (lengthOf High) e) refl
+
+    pub start-none : (size ≡ lengthOf Low → ⊥) → (size ≡ lengthOf High → ⊥) → Refused 1 0 ≡ checkStart head size
+    unfolding checkStart
+    start-none p q = rw (le-ltb (length head) (min size 5120) (omega arith), ne-eqb size (lengthOf Low) p, ne-eqb size (lengthOf High) q) refl

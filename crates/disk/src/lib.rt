@@ -1,0 +1,139 @@
+// The check (document 01, "The numbers given back"): refusals 1 to 9 in their order, and what an accepted image shows.
+ghost use mathlib.Core.Path.{_≡_};
+ghost use Prim.Native.Nat.{_≤_};
+ghost use lib.ListN.{length};
+ghost use Rattle.laws.specs.Reader.{bytes};
+ghost use Rattle.layout.specs.Layouts.{blockOffset};
+ghost use Rattle.layout.specs.Right.{LayoutRight};
+ghost use Rattle.view.specs.Rules.{rules};
+ghost use Rattle.image.specs.Image.{viewOf};
+ghost use Rattle.rules.specs.Check.{checkAs, checkOf, checkStart};
+ghost use Rattle.disk.specs.Steps.{chainRules, checkKinds};
+
+// Refusals 6 to 9: the chains, then what they share, then blocks on none of them.
+fn chain_rules(head: &[u8], layout: layout::Layout) -> view::Ruled
+    requires { ⌜ LayoutRight layout × (blockOffset (layout .first) ≤ length (now head)) ⌝ }
+    ensures { λ r. ⌜ r ≡ chainRules layout (viewOf layout (bytes (now (head .entry)))) ⌝ }
+{
+    let fault = chains::chain_fault(head, layout);
+    let view::Ruled::Pass = fault else {
+        return fault;
+    };
+    let mut marks = [false; 1600];
+    let shared = chains::share_fault(head, layout, &mut marks);
+    if let laws::Lowest::At(slot) = shared {
+        return view::Ruled::Fail {
+            number: 8,
+            place: slot,
+        };
+    }
+    let stray = chains::stray_fault(head, layout, &marks);
+    if let laws::Lowest::At(block) = stray {
+        return view::Ruled::Fail {
+            number: 9,
+            place: block,
+        };
+    }
+    view::Ruled::Pass
+}
+
+// Refusals 3 to 9 of a layout.
+fn disk_rules(head: &[u8], layout: layout::Layout) -> view::Ruled
+    requires { ⌜ LayoutRight layout × (blockOffset (layout .first) ≤ length (now head)) ⌝ }
+    ensures { λ r. ⌜ r ≡ rules layout (viewOf layout (bytes (now (head .entry)))) ⌝ }
+{
+    let system = chains::system_fault(head, layout);
+    if let laws::Lowest::At(block) = system {
+        return view::Ruled::Fail {
+            number: 3,
+            place: block,
+        };
+    }
+    let malformed = slots::form_fault(head, layout);
+    if let laws::Lowest::At(slot) = malformed {
+        return view::Ruled::Fail {
+            number: 4,
+            place: slot,
+        };
+    }
+    let repeated = slots::name_fault(head, layout);
+    if let laws::Lowest::At(slot) = repeated {
+        return view::Ruled::Fail {
+            number: 5,
+            place: slot,
+        };
+    }
+    chain_rules(head, layout)
+}
+
+// The check of an image of a known kind and density.
+fn check_as(head: &[u8], kind: layout::Kind, density: layout::Density) -> rules::Checked
+    requires { ⌜ 5120 ≤ length (now head) ⌝ }
+    ensures { λ r. ⌜ r ≡ checkAs kind density (bytes (now (head .entry))) ⌝ }
+{
+    let layout = layout::layout_of(kind, density);
+    let ruled = disk_rules(head, layout);
+    match ruled {
+        view::Ruled::Pass => {
+            let files = slots::count_used(head, layout);
+            let free = chains::count_free(head, layout);
+            rules::Checked::Accepted {
+                kind,
+                density,
+                files,
+                free,
+            }
+        }
+        view::Ruled::Fail { number, place } => rules::Checked::Refused { number, place },
+    }
+}
+
+// The check of an image of a known density: its kind first (refusal 2).
+fn check_kinds(head: &[u8], density: layout::Density) -> rules::Checked
+    requires { ⌜ 5120 ≤ length (now head) ⌝ }
+    ensures { λ r. ⌜ r ≡ checkKinds density (bytes (now (head .entry))) ⌝ }
+{
+    let s900 = layout::Kind::S900;
+    if slots::has_identity(head, layout::layout_of(s900, density)) {
+        return check_as(head, s900, density);
+    }
+    let s1000 = layout::Kind::S1000;
+    if slots::has_identity(head, layout::layout_of(s1000, density)) {
+        return check_as(head, s1000, density);
+    }
+    rules::Checked::Refused {
+        number: 2,
+        place: 0,
+    }
+}
+
+// The check of an image of which the first 5,120 bytes are at hand, or all, and its length.
+pub fn check_head(head: &[u8], length: usize) -> rules::Checked
+    ensures { λ r. ⌜ r ≡ checkStart (now (head .entry)) length ⌝ }
+{
+    if head.len() < 5120 {
+        return rules::Checked::Refused {
+            number: 1,
+            place: 0,
+        };
+    }
+    let low = layout::Density::Low;
+    if length == layout::image_length(low) {
+        return check_kinds(head, low);
+    }
+    let high = layout::Density::High;
+    if length == layout::image_length(high) {
+        return check_kinds(head, high);
+    }
+    rules::Checked::Refused {
+        number: 1,
+        place: 0,
+    }
+}
+
+// The check of an image.
+pub fn check(image: &[u8]) -> rules::Checked
+    ensures { λ r. ⌜ r ≡ checkOf (now (image .entry)) ⌝ }
+{
+    check_head(image, image.len())
+}
