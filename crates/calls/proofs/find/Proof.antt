@@ -1,0 +1,52 @@
+-- `calls::find` meets its contract: a refused image answers the check's refusal, an accepted one what the record says.
+-- The check's answer is taken apart, and the layout is that of its kind and density. Assumes nothing.
+use mathlib.Core.Path.{_∙_}
+use denote.Ref.{now}
+use borrow.Author.Needs.{needs}
+use Rattle.calls.specs.Answers.{call-refused, findCall}
+use Rattle.calls.specs.Done.{done-right, done-rules, find-done}
+use Rattle.calls.proofs.find.Statement.{statement}
+use Rattle.calls.proofs.find.Tie as tie
+
+check-requires : tie.Need-check-requires
+check-requires c κs = search needs
+
+enum-known-checked : tie.Need-enum-known-checked
+enum-known-checked c = search needs
+
+enum-told : tie.Need-enum-told
+enum-told c = search needs
+
+returns : tie.Need-returns
+returns c =
+    let a = c .before .before .before .before .before .args in
+    call-refused (now (a .image)) (findCall (now (a .name))) (c .before .before .check .ensures) (c .enum-told .given .1)
+
+layout-of-requires : tie.Need-layout-of-requires
+layout-of-requires c κs = search needs
+
+find-named-requires : tie.Need-find-named-requires
+find-named-requires c κs =
+    let k = c .before .before .before .before in
+    let img = now (k .before .before .before .args .image) in
+    let yes = c .before .before .checked .given .1 in
+    (done-right img (k .check .ensures) yes (c .layout-of .ensures), done-rules img (k .check .ensures) yes (c .layout-of .ensures))
+
+returns-2 : tie.Need-returns-2
+returns-2 c =
+    let y = c .before in
+    let k = y .before .before .before .before in
+    let a = k .before .before .before .args in
+    c .find-named .ensures ∙ find-done (now (a .image)) (k .check .ensures) (y .before .before .checked .given .1) (y .layout-of .ensures) (now (a .name))
+
+pub find-spec : {M : Type 1} → statement M
+find-spec =
+    tie.close
+    (tie.spec
+    check-requires
+    enum-known-checked
+    enum-told
+    returns
+    layout-of-requires
+    find-named-requires
+    returns-2)

@@ -1,0 +1,55 @@
+-- `calls::list` meets its contract: a refused image answers the check's refusal, an accepted one what the record says.
+-- The check's answer is taken apart, and the layout is that of its kind and density. Assumes nothing.
+use denote.Ref.{now}
+use borrow.Author.Needs.{needs}
+use Rattle.calls.specs.Answers.{lists-refused}
+use Rattle.calls.specs.Done.{done-right, done-rules, list-done}
+use Rattle.calls.proofs.list.Statement.{statement}
+use Rattle.calls.proofs.list.Tie as tie
+
+check-requires : tie.Need-check-requires
+check-requires c κs = search needs
+
+enum-known-checked : tie.Need-enum-known-checked
+enum-known-checked c = search needs
+
+enum-told : tie.Need-enum-told
+enum-told c = search needs
+
+unlisted-requires : tie.Need-unlisted-requires
+unlisted-requires c κs = search needs
+
+returns : tie.Need-returns
+returns c =
+    let a = c .before .before .before .before .before .args in
+    lists-refused (now (a .image)) (a .slot) (c .before .before .before .check .ensures) (c .before .enum-told .given .1) (c .unlisted .ensures)
+
+layout-of-requires : tie.Need-layout-of-requires
+layout-of-requires c κs = search needs
+
+list-slot-requires : tie.Need-list-slot-requires
+list-slot-requires c κs =
+    let k = c .before .before .before .before in
+    let img = now (k .before .before .args .image) in
+    let yes = c .before .before .checked .given .1 in
+    (done-right img (k .check .ensures) yes (c .layout-of .ensures), done-rules img (k .check .ensures) yes (c .layout-of .ensures))
+
+returns-2 : tie.Need-returns-2
+returns-2 c =
+    let y = c .before in
+    let k = y .before .before .before .before in
+    let a = k .before .before .args in
+    rw (list-done (now (a .image)) (k .check .ensures) (y .before .before .checked .given .1) (y .layout-of .ensures) (a .slot)) at (c .list-slot .ensures)
+
+pub list-spec : {M : Type 1} → statement M
+list-spec =
+    tie.close
+    (tie.spec
+    check-requires
+    enum-known-checked
+    enum-told
+    unlisted-requires
+    returns
+    layout-of-requires
+    list-slot-requires
+    returns-2)

@@ -1,0 +1,58 @@
+-- `calls::page` meets its contract: a refused image answers the check's refusal, an accepted one what the record says.
+-- The check's answer is taken apart, and the layout is that of its kind and density. Assumes nothing.
+use mathlib.Core.Path.{_∙_}
+use denote.Ref.{now}
+use borrow.Author.Needs.{needs}
+use Rattle.calls.specs.Answers.{call-refused, pageCall}
+use Rattle.calls.specs.Done.{done-right, done-rules, page-done}
+use Rattle.calls.proofs.page.Statement.{statement}
+use Rattle.calls.proofs.page.Tie as tie
+
+check-requires : tie.Need-check-requires
+check-requires c κs = search needs
+
+enum-known-checked : tie.Need-enum-known-checked
+enum-known-checked c = search needs
+
+enum-told : tie.Need-enum-told
+enum-told c = search needs
+
+returns : tie.Need-returns
+returns c =
+    let a = c .before .before .before .before .before .args in
+    call-refused (now (a .image)) (pageCall (a .slot) (a .offset) (now (a .out))) (c .before .before .check .ensures) (c .enum-told .given .1)
+
+layout-of-requires : tie.Need-layout-of-requires
+layout-of-requires c κs = search needs
+
+page-slot-requires : tie.Need-page-slot-requires
+page-slot-requires c κs =
+    let y = c .before in
+    let k = y .before .before .before .before in
+    let img = now (k .before .before .before .args .image) in
+    let yes = y .before .before .checked .given .1 in
+    (done-right img (k .check .ensures) yes (y .layout-of .ensures), done-rules img (k .check .ensures) yes (y .layout-of .ensures))
+
+same-length : tie.Need-same-length
+same-length c = search needs
+
+returns-2 : tie.Need-returns-2
+returns-2 c =
+    let g = c .before .before in
+    let y = g .before .before in
+    let k = y .before .before .before .before in
+    let a = k .before .before .before .args in
+    g .page-slot .ensures ∙ page-done (now (a .image)) (k .check .ensures) (y .before .before .checked .given .1) (y .layout-of .ensures) (a .slot) (a .offset) _
+
+pub page-spec : {M : Type 1} → statement M
+page-spec =
+    tie.close
+    (tie.spec
+    check-requires
+    enum-known-checked
+    enum-told
+    returns
+    layout-of-requires
+    page-slot-requires
+    same-length
+    returns-2)

@@ -1,0 +1,109 @@
+-- `calls::page_slot` meets its contract: a slot without a file is refused by 10, an offset above the length by 17, else the page is the record's.
+-- The bytes copied are the chain's, of which the file's content is the front. Assumes nothing.
+use mathlib.Core.Path.{_≡_, refl, sym, ap, _∙_}
+use mathlib.Core.Bool.{true}
+use native.Mathlib.Omega.{arith}
+use denote.Ref.{now}
+use borrow.Author.Needs.{needs}
+use borrow.Author.Tests.{not-true, not-false}
+use Rattle.laws.specs.Splice.{splice}
+use Rattle.laws.specs.Reader.{bytes}
+use Rattle.view.specs.Disk.{used}
+use Rattle.image.specs.Image.{viewOf}
+use Rattle.calls.specs.Slots.{slotFile, file-above, file-empty, file-used}
+use Rattle.calls.specs.Paging.{pages-none, pages-above, pages-file, size-some, content-size, slot-chained, page-bytes}
+use Rattle.calls.proofs.page_slot.Statement.{statement}
+use Rattle.calls.proofs.page_slot.Tie as tie
+
+-- past the two tests the slot is used
+here : (c : tie.Else2) → let p = c .before .before .before .before .before in
+    used (viewOf (p .args .layout) (bytes (now (p .args .image))) .entry (p .args .slot)) ≡ true
+here c = sym (c .before .is-used .ensures) ∙ not-false _ (c .if2 .left)
+
+returns : tie.Need-returns
+returns c =
+    let a = c .before .before .before .args in
+    pages-none (now (a .image)) _ (a .offset) _ (file-above (a .layout) (now (a .image)) (a .slot) (c .if1 .taken)) refl
+
+is-used-requires : tie.Need-is-used-requires
+is-used-requires c κs = search needs
+
+returns-2 : tie.Need-returns-2
+returns-2 c =
+    let a = c .before .before .before .before .before .args in
+    pages-none (now (a .image)) _ (a .offset) _ (file-empty (a .layout) (now (a .image)) (a .slot) (omega arith) (sym (c .before .is-used .ensures) ∙ not-true _ (c .if2 .taken))) refl
+
+size-of-requires : tie.Need-size-of-requires
+size-of-requires c κs = search needs
+
+returns-3 : tie.Need-returns-3
+returns-3 c =
+    let e = c .before .before in
+    let p = e .before .before .before .before .before in
+    let a = p .args in
+    let u = here e in
+    pages-above (now (a .image)) _ (a .offset) _ (slotFile (a .layout) (now (a .image)) (a .slot)) (c .before .size-of .result)
+    (file-used (a .layout) (now (a .image)) (a .slot) (omega arith) u) (content-size (a .layout) (p .pre .0) (now (a .image)) (p .pre .1) (a .slot) (omega arith) u (c .before .size-of .ensures)) (omega arith) refl
+
+start-of-requires : tie.Need-start-of-requires
+start-of-requires c κs = search needs
+
+least-requires : tie.Need-least-requires
+least-requires c κs = search needs
+
+sub-links : tie.Need-sub-links
+sub-links c =
+    let e = c .before .before .before .before in
+    let p = e .before .before .before .before .before in
+    let a = p .args in
+    size-some (a .layout) (p .pre .0) (now (a .image)) (p .pre .1) (a .slot) (omega arith) (here e) (c .before .before .before .size-of .ensures)
+
+page-runs-requires : tie.Need-page-runs-requires
+page-runs-requires c κs =
+    let e = c .before .before .before .before .before in
+    let p = e .before .before .before .before .before in
+    let a = p .args in
+    let some = size-some (a .layout) (p .pre .0) (now (a .image)) (p .pre .1) (a .slot) (omega arith) (here e) (c .before .before .before .before .size-of .ensures) in (
+      (p .pre .0, p .pre .1 .size, slot-chained (a .layout) (p .pre .0) (now (a .image)) (p .pre .1) (a .slot) (omega arith) (here e) (c .before .before .before .before .size-of .ensures) (c .before .before .start-of .ensures)),
+      (omega arith, omega arith),
+    )
+
+add-end : tie.Need-add-end
+add-end c = search needs
+
+same-length : tie.Need-same-length
+same-length c = search needs
+
+returns-4 : tie.Need-returns-4
+returns-4 c =
+    let g = c .before .before in
+    let z = g .before .before .before .before .before in
+    let e = z .before in
+    let p = e .before .before .before .before .before in
+    let a = p .args in
+    let l = a .layout in
+    let img = now (a .image) in
+    let u = here e in
+    let n = content-size l (p .pre .0) img (p .pre .1) (a .slot) (omega arith) u (z .size-of .ensures) in
+    pages-file img _ (a .offset) _ (slotFile l img (a .slot)) (z .size-of .result) (g .before .before .least .result)
+    (file-used l img (a .slot) (omega arith) u) n (omega arith) (g .before .before .least .ensures) refl
+    (g .page-runs .ensures
+    ∙ ap (splice _ 0)
+    (page-bytes l (p .pre .0) img (p .pre .1) (a .slot) (omega arith) u (z .size-of .ensures) (g .before .before .before .start-of .ensures) (a .offset) (g .before .before .least .result) (omega arith)))
+
+pub page-slot-spec : {M : Type 1} → statement M
+page-slot-spec =
+    tie.close
+    (tie.spec
+    returns
+    is-used-requires
+    returns-2
+    size-of-requires
+    returns-3
+    start-of-requires
+    least-requires
+    sub-links
+    page-runs-requires
+    add-end
+    same-length
+    returns-4)

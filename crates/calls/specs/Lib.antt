@@ -1,0 +1,6 @@
+pub mod Answers
+pub mod Done
+pub mod Slots
+pub mod Listing
+pub mod Finding
+pub mod Paging

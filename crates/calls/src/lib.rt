@@ -1,0 +1,211 @@
+// The calls on any bytes: each takes the check's answer apart first, and promises what `callOf` says it comes to.
+ghost use mathlib.Core.Path.{_≡_};
+ghost use mathlib.Core.List.{[]};
+ghost use Rattle.layout.specs.Right.{LayoutRight};
+ghost use Rattle.image.specs.Image.{filesIn, DiskRules};
+ghost use Rattle.record.specs.Record.{fileAt, judgeName, listing, finding, paging};
+ghost use Rattle.rules.specs.Check.{callOf};
+ghost use Rattle.calls.specs.Answers.{came, foundOf, pagedOf, Lists, noFile, unlistedOf, listCall, findCall, pageCall};
+
+// A slot, a refusal of the call's own, or the check's refusal.
+pub enum Found {
+    At(usize),
+    Refusal { number: usize, place: usize },
+    Unchecked(rules::Checked),
+}
+
+// How many bytes a page has and whether the file ends with them, a refusal of the call's own, or the check's refusal.
+pub enum Paged {
+    Page { count: usize, end: bool },
+    Refusal { number: usize, place: usize },
+    Unchecked(rules::Checked),
+}
+
+// A file's name length, type byte and length, a refusal of the call's own, or the check's refusal.
+pub enum Entry {
+    File {
+        letters: usize,
+        letter: u8,
+        length: usize,
+    },
+    Refusal {
+        number: usize,
+        place: usize,
+    },
+    Unchecked(rules::Checked),
+}
+
+// An entry with its name in ASCII, then zeros.
+pub struct Listed {
+    pub entry: Entry,
+    pub name: [u8; 12],
+}
+
+// A listing without a file.
+fn no_file() -> Listed
+    ensures { λ r. ⌜ r ≡ noFile ⌝ }
+{
+    Listed {
+        entry: Entry::Refusal {
+            number: 10,
+            place: 0,
+        },
+        name: [0; 12],
+    }
+}
+
+// A listing of an image that the check refused.
+fn unlisted(checked: rules::Checked) -> Listed
+    ensures { λ r. ⌜ r ≡ unlistedOf checked ⌝ }
+{
+    Listed {
+        entry: Entry::Unchecked(checked),
+        name: [0; 12],
+    }
+}
+
+// Lists a slot of an accepted image: 10 if it is empty or not there.
+fn list_slot(image: &[u8], layout: layout::Layout, slot: usize) -> Listed
+    requires { ⌜ LayoutRight layout × DiskRules layout (now image) ⌝ }
+    ensures { λ r. ⌜ Lists (now (image .entry)) (listing (now (image .entry)) (fileAt layout (filesIn layout (now (image .entry))) slot)) r ⌝ }
+{
+    let slots = layout.slots;
+    let directory = layout.directory;
+    let letters = layout.letters;
+    if slot >= slots {
+        return no_file();
+    }
+    if !slots::is_used(image, layout, slot) {
+        return no_file();
+    }
+    let letter = slots::type_of(image, layout, slot);
+    let length = slots::size_of(image, layout, slot);
+    let at = directory + 24 * slot;
+    let end = at + 16;
+    let name = names::name_of(layout, &image[at..end]);
+    Listed {
+        entry: Entry::File {
+            letters,
+            letter,
+            length,
+        },
+        name,
+    }
+}
+
+// The slot of a file of an accepted image by its name: 11, 10.
+fn find_named(image: &[u8], layout: layout::Layout, name: &[u8]) -> Found
+    requires { ⌜ LayoutRight layout × DiskRules layout (now image) ⌝ }
+    ensures { λ r. ⌜ came (foundOf r) [] (now (image .entry)) ≡ finding (now (image .entry)) (judgeName layout (filesIn layout (now (image .entry))) (now (name .entry))) ⌝ }
+{
+    if !names::is_name(layout, name) {
+        return Found::Refusal {
+            number: 11,
+            place: 0,
+        };
+    }
+    let area = names::area_of(layout, name);
+    let low = slots::key(&area, 0);
+    let high = slots::key(&area, 8);
+    let found = slots::find_keys(image, layout, low, high);
+    match found {
+        laws::Lowest::At(slot) => Found::At(slot),
+        laws::Lowest::Nowhere => Found::Refusal {
+            number: 10,
+            place: 0,
+        },
+    }
+}
+
+// A page of a slot's file of an accepted image: 10, 17.
+fn page_slot(
+    image: &[u8],
+    layout: layout::Layout,
+    slot: usize,
+    offset: usize,
+    out: &mut [u8],
+) -> Paged
+    requires { ⌜ LayoutRight layout × DiskRules layout (now image) ⌝ }
+    ensures { λ r. ⌜ came (pagedOf r) (now (out .exit)) (now (image .entry)) ≡ paging (now (image .entry)) (fileAt layout (filesIn layout (now (image .entry))) slot) offset (now (out .entry)) ⌝ }
+{
+    let slots = layout.slots;
+    if slot >= slots {
+        return Paged::Refusal {
+            number: 10,
+            place: 0,
+        };
+    }
+    if !slots::is_used(image, layout, slot) {
+        return Paged::Refusal {
+            number: 10,
+            place: 0,
+        };
+    }
+    let size = slots::size_of(image, layout, slot);
+    if offset > size {
+        return Paged::Refusal {
+            number: 17,
+            place: 0,
+        };
+    }
+    let start = slots::start_of(image, layout, slot);
+    let count = blocks::least(out.len(), size - offset);
+    let links = (size - 1) / 1024;
+    pages::page_runs(image, layout, links, start, offset, out, count);
+    let end = offset + count == size;
+    Paged::Page { count, end }
+}
+
+// What a slot holds.
+pub fn list(image: &[u8], slot: usize) -> Listed
+    ensures { λ r. ⌜ Lists (now (image .entry)) (callOf (now (image .entry)) (listCall slot)) r ⌝ }
+{
+    let checked = disk::check(image);
+    let rules::Checked::Accepted {
+        kind,
+        density,
+        files: _,
+        free: _,
+    } = checked
+    else {
+        return unlisted(checked);
+    };
+    let layout = layout::layout_of(kind, density);
+    list_slot(image, layout, slot)
+}
+
+// The slot of the file with a name.
+pub fn find(image: &[u8], name: &[u8]) -> Found
+    ensures { λ r. ⌜ came (foundOf r) [] (now (image .entry)) ≡ callOf (now (image .entry)) (findCall (now (name .entry))) ⌝ }
+{
+    let checked = disk::check(image);
+    let rules::Checked::Accepted {
+        kind,
+        density,
+        files: _,
+        free: _,
+    } = checked
+    else {
+        return Found::Unchecked(checked);
+    };
+    let layout = layout::layout_of(kind, density);
+    find_named(image, layout, name)
+}
+
+// Bytes of a slot's file from an offset on, to the front of the output.
+pub fn page(image: &[u8], slot: usize, offset: usize, out: &mut [u8]) -> Paged
+    ensures { λ r. ⌜ came (pagedOf r) (now (out .exit)) (now (image .entry)) ≡ callOf (now (image .entry)) (pageCall slot offset (now (out .entry))) ⌝ }
+{
+    let checked = disk::check(image);
+    let rules::Checked::Accepted {
+        kind,
+        density,
+        files: _,
+        free: _,
+    } = checked
+    else {
+        return Paged::Unchecked(checked);
+    };
+    let layout = layout::layout_of(kind, density);
+    page_slot(image, layout, slot, offset, out)
+}
