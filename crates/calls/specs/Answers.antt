@@ -8,6 +8,8 @@ use Rattle.laws.specs.Padded.{padded, padded-nil}
 use Rattle.layout.specs.declared.Kind.{Kind}
 use Rattle.layout.specs.declared.Density.{Density}
 use Rattle.record.specs.Record.{shapeOf, Call, list, find, page, Answer, accepted, entry, slotIs, paged, done, refused, Outcome}
+use Rattle.record.specs.declared.Judged.{Judged}
+use Rattle.record.specs.declared.Judged.the-variants.{Refuse, Grant}
 use Rattle.record.specs.Step.{stepImage}
 use Rattle.rules.specs.declared.Checked.{Checked}
 use Rattle.rules.specs.declared.Checked.the-variants.{Accepted, Refused}
@@ -25,6 +27,11 @@ abbrev pub foundOf : Found → Answer
 foundOf (found.At slot) = slotIs slot
 foundOf (found.Refusal number place) = refused number place
 foundOf (found.Unchecked c) = answerOf c
+
+-- by a call's judgement
+abbrev pub foundBy : Judged → Found
+foundBy (Refuse number place) = found.Refusal number place
+foundBy (Grant slot) = found.At slot
 
 -- Page's.
 abbrev pub pagedOf : Paged → Answer

@@ -2,7 +2,7 @@
 -- On a valid disk a used slot's area is its name's, and a legal name is its area's. Assumes nothing.
 use mathlib.Core.Path.{_≡_, refl, sym, ap, _∙_}
 use mathlib.Core.Bool.{Bool, true, false}
-use mathlib.Core.List.{List, []}
+use mathlib.Core.List.{List}
 use Prim.Native.Nat.{ℕ, _<_}
 use native.Mathlib.Omega.{arith}
 use native.Mathlib.Nat.{zero-add}
@@ -22,8 +22,8 @@ use Rattle.names.specs.NameLaws.{length-area, name-back, area-back}
 use Rattle.view.specs.Disk.{Entry, used, formed, filesOf}
 use Rattle.image.specs.Image.{viewOf, filesIn, DiskRules}
 use Rattle.slots.specs.Keys.{Key, hasArea, hasKeys, keys-area}
-use Rattle.record.specs.Record.{Files, refuse, grant, orRefuse, named, slotOf, judgeName, slotIs, refused, finding}
-use Rattle.calls.specs.Answers.{came}
+use Rattle.record.specs.Record.{Files, named, slotOf, judgeName}
+use Rattle.record.specs.declared.Judged.the-variants.{Refuse, Grant}
 
 formed-area : (l : Layout) (e : Entry) → formed l e ≡ true → legalArea l (e .area) ≡ true
 unfolding formed
@@ -52,17 +52,6 @@ module _ (l : Layout) (right : LayoutRight l) (img : List ℕ) (rules : DiskRule
       lowest-cong (λ s. named name (filesIn l img s)) (λ s. hasArea (areaOf l name) (viewOf l (bytes img) .entry s)) 0 (l .slots)
       (λ s p q. named-by s (omega arith) (used (viewOf l (bytes img) .entry s)) refl)
 
--- ---- find's judgement by the name and the slot found
-
-module _ (l : Layout) (files : Files) (name : List ℕ) where
-  pub judge-illegal : legalName l name ≡ false → judgeName l files name ≡ refuse 11 0
-  unfolding judgeName
-  judge-illegal e = rw e refl
-
-  pub judge-found : (w : Lowest) → legalName l name ≡ true → slotOf l files name ≡ w → judgeName l files name ≡ orRefuse 10 w (λ s. grant s)
-  unfolding judgeName
-  judge-found w e f = rw (e, f) refl
-
 -- the slot found with the keys of the name's area is the record's
 module _ (l : Layout) (right : LayoutRight l) (img : List ℕ) (rules : DiskRules l img) (name : List ℕ) (legal : legalName l name ≡ true) where
   whole : {area : List ℕ} → area ≡ areaOf l name → tab (bytes area) 0 16 ≡ areaOf l name
@@ -71,22 +60,26 @@ module _ (l : Layout) (right : LayoutRight l) (img : List ℕ) (rules : DiskRule
       ap (tab (bytes area) 0) (sym n) ∙ tab-is (bytes area) 0 area (λ k p. ap (bytes area) (zero-add k)) ∙ is
 
   pub found-slot : {area : List ℕ} {low high : ℕ} {r : Lowest} → ((k : ℕ) → bytes img k < 256) → area ≡ areaOf l name → Key (bytes area) 0 low → Key (bytes area) 8 high
-      → r ≡ lowest (λ s. hasKeys l (bytes img) s low high) 0 (l .slots) → slotOf l (filesIn l img) name ≡ r
+      → r ≡ lowest (λ s. hasKeys l (bytes img) s low high) 0 (l .slots) → r ≡ slotOf l (filesIn l img) name
   found-slot {area} {low} {high} small is front back found =
-      slot-is l right img rules name legal
-      ∙ sym (found ∙ lowest-cong (λ s. hasKeys l (bytes img) s low high) (λ s. hasArea (areaOf l name) (viewOf l (bytes img) .entry s)) 0 (l .slots)
+      (found ∙ lowest-cong (λ s. hasKeys l (bytes img) s low high) (λ s. hasArea (areaOf l name) (viewOf l (bytes img) .entry s)) 0 (l .slots)
       (λ s p q.
       keys-area l (bytes area) (bytes img) 0 s (front .small) small (front .value) (back .value)
       ∙ ap (λ (a : List ℕ). hasArea a (viewOf l (bytes img) .entry s)) (whole is)))
+      ∙ sym (slot-is l right img rules name legal)
 
--- find's answer by that slot
-module _ (l : Layout) (img name : List ℕ) where
-  pub finds-illegal : legalName l name ≡ false → came (refused 11 0) [] img ≡ finding img (judgeName l (filesIn l img) name)
-  finds-illegal e = rw (judge-illegal l (filesIn l img) name e) refl
+-- ---- the judgement of a name, r being the slot found
 
-  module _ (legal : legalName l name ≡ true) {r : Lowest} (slot : slotOf l (filesIn l img) name ≡ r) where
-    pub finds-slot : {s : ℕ} → r ≡ At s → came (slotIs s) [] img ≡ finding img (judgeName l (filesIn l img) name)
-    finds-slot e = rw (judge-found l (filesIn l img) name r legal slot, e) refl
+module _ (l : Layout) (files : Files) (name : List ℕ) where
+  pub judge-illegal : legalName l name ≡ false → Refuse 11 0 ≡ judgeName l files name
+  unfolding judgeName
+  judge-illegal e = rw e refl
 
-    pub finds-none : r ≡ Nowhere → came (refused 10 0) [] img ≡ finding img (judgeName l (filesIn l img) name)
-    finds-none e = rw (judge-found l (filesIn l img) name r legal slot, e) refl
+  module _ (legal : legalName l name ≡ true) {r : Lowest} (slot : r ≡ slotOf l files name) where
+    pub judge-found : {s : ℕ} → r ≡ At s → Grant s ≡ judgeName l files name
+    unfolding judgeName
+    judge-found e = rw (legal, ← slot, e) refl
+
+    pub judge-none : r ≡ Nowhere → Refuse 10 0 ≡ judgeName l files name
+    unfolding judgeName
+    judge-none e = rw (legal, ← slot, e) refl

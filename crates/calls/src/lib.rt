@@ -3,9 +3,11 @@ ghost use mathlib.Core.Path.{_≡_};
 ghost use mathlib.Core.List.{[]};
 ghost use Rattle.layout.specs.Right.{LayoutRight};
 ghost use Rattle.image.specs.Image.{filesIn, DiskRules};
-ghost use Rattle.record.specs.Record.{fileAt, judgeName, listing, finding, paging};
+ghost use Rattle.record.specs.Record.{slotOf, fileAt, judgeName, listing, paging};
+ghost use Rattle.names.specs.Names.{legalName};
+ghost use mathlib.Core.Bool.{true};
 ghost use Rattle.rules.specs.Check.{callOf};
-ghost use Rattle.calls.specs.Answers.{came, foundOf, pagedOf, Lists, noFile, unlistedOf, listCall, findCall, pageCall};
+ghost use Rattle.calls.specs.Answers.{came, foundOf, foundBy, pagedOf, Lists, noFile, unlistedOf, listCall, findCall, pageCall};
 
 // A slot, a refusal of the call's own, or the check's refusal.
 pub enum Found {
@@ -93,27 +95,45 @@ fn list_slot(image: &[u8], layout: layout::Layout, slot: usize) -> Listed
     }
 }
 
-// The slot of a file of an accepted image by its name: 11, 10.
-fn find_named(image: &[u8], layout: layout::Layout, name: &[u8]) -> Found
+// The slot of a file of an accepted image by its legal name.
+fn slot_named(image: &[u8], layout: layout::Layout, name: &[u8]) -> laws::Lowest
+    requires { ⌜ LayoutRight layout × DiskRules layout (now image) × (legalName layout (now name) ≡ true) ⌝ }
+    ensures { λ r. ⌜ r ≡ slotOf layout (filesIn layout (now (image .entry))) (now (name .entry)) ⌝ }
+{
+    let area = names::area_of(layout, name);
+    let low = slots::key(&area, 0);
+    let high = slots::key(&area, 8);
+    slots::find_keys(image, layout, low, high)
+}
+
+// How find and remove are judged on an accepted image: 11, 10.
+fn judge_name(image: &[u8], layout: layout::Layout, name: &[u8]) -> record::Judged
     requires { ⌜ LayoutRight layout × DiskRules layout (now image) ⌝ }
-    ensures { λ r. ⌜ came (foundOf r) [] (now (image .entry)) ≡ finding (now (image .entry)) (judgeName layout (filesIn layout (now (image .entry))) (now (name .entry))) ⌝ }
+    ensures { λ r. ⌜ r ≡ judgeName layout (filesIn layout (now (image .entry))) (now (name .entry)) ⌝ }
 {
     if !names::is_name(layout, name) {
-        return Found::Refusal {
+        return record::Judged::Refuse {
             number: 11,
             place: 0,
         };
     }
-    let area = names::area_of(layout, name);
-    let low = slots::key(&area, 0);
-    let high = slots::key(&area, 8);
-    let found = slots::find_keys(image, layout, low, high);
+    let found = slot_named(image, layout, name);
     match found {
-        laws::Lowest::At(slot) => Found::At(slot),
-        laws::Lowest::Nowhere => Found::Refusal {
+        laws::Lowest::At(slot) => record::Judged::Grant(slot),
+        laws::Lowest::Nowhere => record::Judged::Refuse {
             number: 10,
             place: 0,
         },
+    }
+}
+
+// Find's answer by its judgement.
+fn found_by(judged: record::Judged) -> Found
+    ensures { λ r. ⌜ r ≡ foundBy judged ⌝ }
+{
+    match judged {
+        record::Judged::Refuse { number, place } => Found::Refusal { number, place },
+        record::Judged::Grant(slot) => Found::At(slot),
     }
 }
 
@@ -129,7 +149,7 @@ fn page_slot(
     ensures { λ r. ⌜ came (pagedOf r) (now (out .exit)) (now (image .entry)) ≡ paging (now (image .entry)) (fileAt layout (filesIn layout (now (image .entry))) slot) offset (now (out .entry)) ⌝ }
 {
     let slots = layout.slots;
-    if slot >= slots {
+    if slots <= slot {
         return Paged::Refusal {
             number: 10,
             place: 0,
@@ -189,7 +209,7 @@ pub fn find(image: &[u8], name: &[u8]) -> Found
         return Found::Unchecked(checked);
     };
     let layout = layout::layout_of(kind, density);
-    find_named(image, layout, name)
+    found_by(judge_name(image, layout, name))
 }
 
 // Bytes of a slot's file from an offset on, to the front of the output.

@@ -141,7 +141,7 @@ fn wide(value: u16) -> usize
 }
 
 // The k-th of some blocks, which are all below an end.
-fn block_of(list: &[u16], k: usize, end: usize) -> usize
+pub fn block_of(list: &[u16], k: usize, end: usize) -> usize
     requires { ⌜ (k < length (now list)) × ((b : ℕ) → In b (now list) → b < end) ⌝ }
     ensures { λ r. ⌜ (r ≡ getD (now (list .entry)) k 0) × (r < end) ⌝ }
 {

@@ -10,7 +10,9 @@ use Rattle.laws.specs.Scan.{at→}
 use Rattle.laws.specs.Lists.{same-true}
 use Rattle.layout.specs.declared.Layout.{Layout}
 use Rattle.view.specs.Disk.{File}
-use Rattle.record.specs.Record.{Shape, Files, Call, check, list, find, page, put, remove, Judged, refuse, grant, named, isEmpty, replaced, slotOf, emptySlot, judgeName, judgePut, stepFiles}
+use Rattle.record.specs.Record.{Shape, Files, Call, check, list, find, page, put, remove, named, isEmpty, replaced, slotOf, emptySlot, judgeName, judgePut, stepFiles}
+use Rattle.record.specs.declared.Judged.{Judged}
+use Rattle.record.specs.declared.Judged.the-variants.{Refuse, Grant}
 use Rattle.record.specs.Granted.{granted-name, granted-put}
 use Rattle.record.specs.Step.{Reading, reads-check, reads-list, reads-find, reads-page, reading-keeps}
 
@@ -24,15 +26,15 @@ module _ (shape : Shape) (files : Files) (t : ℕ) (f : File) (there : files t �
 
   put-keeps : (name : List ℕ) (type : ℕ) (content : List ℕ) (j : Judged) → judgePut l files name type content ≡ j → stepFiles shape files (put name type content) .state t ≡ some f
   unfolding stepFiles
-  put-keeps name type content (refuse n p) e = rw e there
-  put-keeps name type content (grant s) e =
+  put-keeps name type content (Refuse n p) e = rw e there
+  put-keeps name type content (Grant s) e =
       let w = at→ (λ x. isEmpty (files x)) 0 (l .slots) s (unfold emptySlot in granted-put l files name type content s e .slot) in
       rw e (other-slot s _ (λ q. true≢false (sym (w .2) ∙ ap (λ (x : ℕ). isEmpty (files x)) (sym q) ∙ ap isEmpty there)))
 
   remove-keeps : (name : List ℕ) (j : Judged) → judgeName l files name ≡ j → (name ≡ f .name → ⊥) → stepFiles shape files (remove name) .state t ≡ some f
   unfolding stepFiles
-  remove-keeps name (refuse n p) e ne = rw e there
-  remove-keeps name (grant s) e ne =
+  remove-keeps name (Refuse n p) e ne = rw e there
+  remove-keeps name (Grant s) e ne =
       let w = at→ (λ x. named name (files x)) 0 (l .slots) s (unfold slotOf in granted-name l files name s e) in
       rw e (other-slot s none (λ q. ne (same-true name (f .name) (sym (ap (named name) there) ∙ ap (λ (x : ℕ). named name (files x)) q ∙ w .2))))
 

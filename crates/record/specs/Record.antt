@@ -19,6 +19,8 @@ use Rattle.layout.specs.Layouts.{layoutOf}
 use Rattle.blocks.specs.Blocks.{blocksFor}
 use Rattle.names.specs.Names.{legalName, legalType}
 use Rattle.view.specs.Disk.{File}
+use Rattle.record.specs.declared.Judged.{Judged}
+use Rattle.record.specs.declared.Judged.the-variants.{Refuse, Grant}
 use Rattle.view.specs.Counting.{takes}
 
 -- What stays over all calls: kind and density, and the layout that they fix.
@@ -68,23 +70,19 @@ answered s a = record { answer = a; output = []; state = s }
 
 -- ---- a call on a name: refused by number and place, or granted a slot
 
-pub data Judged : Type 0 where
-  refuse : ℕ → ℕ → Judged
-  grant : ℕ → Judged
-
 abbrev pub refuseIf : Bool → ℕ → Judged → Judged
-refuseIf true n next = refuse n 0
+refuseIf true n next = Refuse n 0
 refuseIf false n next = next
 
 -- refused at the slot found
 abbrev pub refuseAt : ℕ → Lowest → Judged → Judged
-refuseAt n (At s) next = refuse n s
+refuseAt n (At s) next = Refuse n s
 refuseAt n Nowhere next = next
 
 -- refused where no slot is found
 abbrev pub orRefuse : ℕ → Lowest → (ℕ → Judged) → Judged
 orRefuse n (At s) next = next s
-orRefuse n Nowhere next = refuse n 0
+orRefuse n Nowhere next = Refuse n 0
 
 abbrev pub named : List ℕ → Option File → Bool
 named name none = false
@@ -121,7 +119,7 @@ module _ (l : Layout) (files : Files) where
   -- find and remove: 11, 10
   unfoldable pub judgeName : List ℕ → Judged
   unfolding legalName slotOf
-  judgeName name = refuseIf (not (legalName l name)) 11 (orRefuse 10 (slotOf name) (λ s. grant s))
+  judgeName name = refuseIf (not (legalName l name)) 11 (orRefuse 10 (slotOf name) (λ s. Grant s))
 
   -- put: 11, 13, 12, 14, 15, 16
   unfoldable pub judgePut : List ℕ → ℕ → List ℕ → Judged
@@ -133,7 +131,7 @@ module _ (l : Layout) (files : Files) where
       (orRefuse 14 emptySlot (λ s.
       refuseIf (ltb free (blocksFor (length content))) 15
       (refuseIf (ltb 16777215 (length content)) 16
-      (grant s))))))
+      (Grant s))))))
 
   -- the file of a slot, none above the last
   unfoldable pub fileAt : ℕ → Option File
@@ -142,16 +140,16 @@ module _ (l : Layout) (files : Files) where
 -- ---- what a judged call comes to
 
 abbrev pub finding : {S : Type 0} → S → Judged → Outcome S
-finding state (refuse n p) = answered state (refused n p)
-finding state (grant s) = answered state (slotIs s)
+finding state (Refuse n p) = answered state (refused n p)
+finding state (Grant s) = answered state (slotIs s)
 
 abbrev pub putting : {S : Type 0} → S → (ℕ → S) → Judged → Outcome S
-putting state after (refuse n p) = answered state (refused n p)
-putting state after (grant s) = answered (after s) (slotIs s)
+putting state after (Refuse n p) = answered state (refused n p)
+putting state after (Grant s) = answered (after s) (slotIs s)
 
 abbrev pub removing : {S : Type 0} → S → (ℕ → S) → Judged → Outcome S
-removing state after (refuse n p) = answered state (refused n p)
-removing state after (grant s) = answered (after s) done
+removing state after (Refuse n p) = answered state (refused n p)
+removing state after (Grant s) = answered (after s) done
 
 -- list: 10
 abbrev pub listing : {S : Type 0} → S → Option File → Outcome S

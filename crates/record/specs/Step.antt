@@ -11,13 +11,15 @@ use Rattle.layout.specs.declared.Layout.{Layout}
 use Rattle.layout.specs.Right.{LayoutRight}
 use Rattle.view.specs.Disk.{File}
 use Rattle.image.specs.Image.{filesIn, DiskRules, removeImage, putImage}
-use Rattle.record.specs.Record.{Shape, Files, Call, check, list, find, page, put, remove, Outcome, Judged, refuse, grant, judgeName, judgePut, fileAt, finding, listing, paging, stepFiles}
+use Rattle.record.specs.Record.{Shape, Files, Call, check, list, find, page, put, remove, Outcome, judgeName, judgePut, fileAt, finding, listing, paging, stepFiles}
+use Rattle.record.specs.declared.Judged.{Judged}
+use Rattle.record.specs.declared.Judged.the-variants.{Refuse, Grant}
 use Rattle.record.specs.Update.{remove-rules, remove-files, put-rules, put-files}
 
 -- The image that a judged call leaves.
 abbrev pub after : List ℕ → (ℕ → List ℕ) → Judged → List ℕ
-after img change (refuse n p) = img
-after img change (grant s) = change s
+after img change (Refuse n p) = img
+after img change (Grant s) = change s
 
 unfoldable pub imageAfter : Layout → List ℕ → Call → List ℕ
 unfolding putImage removeImage judgePut judgeName
@@ -39,8 +41,8 @@ stepImage shape img c =
 
 module _ (files : Files) where
   finding-keeps : (j : Judged) → finding files j .state ≡ files
-  finding-keeps (refuse n p) = refl
-  finding-keeps (grant s) = refl
+  finding-keeps (Refuse n p) = refl
+  finding-keeps (Grant s) = refl
 
   listing-keeps : (f : Option File) → listing files f .state ≡ files
   listing-keeps none = refl
@@ -80,16 +82,16 @@ module _ (shape : Shape) (right : LayoutRight (shape .layout)) (img : List ℕ) 
 
   put-step : (name : List ℕ) (type : ℕ) (content : List ℕ) (j : Judged) → judgePut l (filesIn l img) name type content ≡ j → Step shape img (put name type content)
   unfolding imageAfter stepFiles
-  put-step name type content (refuse n p) e = record { rules = rw e rules; files = λ t. rw e refl }
-  put-step name type content (grant s) e = record {
+  put-step name type content (Refuse n p) e = record { rules = rw e rules; files = λ t. rw e refl }
+  put-step name type content (Grant s) e = record {
     rules = rw e (put-rules l right img rules name type content s e);
     files = λ t. rw e (put-files l right img rules name type content s e t);
   }
 
   remove-step : (name : List ℕ) (j : Judged) → judgeName l (filesIn l img) name ≡ j → Step shape img (remove name)
   unfolding imageAfter stepFiles
-  remove-step name (refuse n p) e = record { rules = rw e rules; files = λ t. rw e refl }
-  remove-step name (grant s) e = record {
+  remove-step name (Refuse n p) e = record { rules = rw e rules; files = λ t. rw e refl }
+  remove-step name (Grant s) e = record {
     rules = rw e (remove-rules l right img rules name s e);
     files = λ t. rw e (remove-files l right img rules name s e t);
   }

@@ -32,7 +32,8 @@ use Rattle.view.specs.Remove.{Removed, remove-valid, remove-gone, remove-others
 use Rattle.view.specs.Put.{Fresh, Stored, put-valid, put-here, put-others}
 use Rattle.image.specs.Image.{entryAt, viewOf, filesIn, DiskRules, removeImage, chosen, newEntry, putImage}
 use Rattle.image.specs.Effect.{removed, remove-length, remove-identity, stored, put-length, put-identity}
-use Rattle.record.specs.Record.{grant, named, isEmpty, replaced, slotOf, emptySlot, free, judgeName, judgePut}
+use Rattle.record.specs.Record.{named, isEmpty, replaced, slotOf, emptySlot, free, judgeName, judgePut}
+use Rattle.record.specs.declared.Judged.the-variants.{Grant}
 use Rattle.record.specs.Granted.{Puts, granted-name, granted-put}
 
 -- ---- slots and their files
@@ -84,7 +85,7 @@ module _ (l : Layout) (right : LayoutRight l) (img : List ℕ) (rules : DiskRule
 
   -- ---- remove
 
-  module _ (name : List ℕ) (s : ℕ) (granted : judgeName l (filesIn l img) name ≡ grant s) where
+  module _ (name : List ℕ) (s : ℕ) (granted : judgeName l (filesIn l img) name ≡ Grant s) where
     remove-slot : Used l (viewOf l (bytes img)) s
     unfolding slotOf
     remove-slot =
@@ -113,7 +114,7 @@ module _ (l : Layout) (right : LayoutRight l) (img : List ℕ) (rules : DiskRule
 
   -- ---- put
 
-  module _ (name : List ℕ) (type : ℕ) (content : List ℕ) (s : ℕ) (granted : judgePut l (filesIn l img) name type content ≡ grant s) where
+  module _ (name : List ℕ) (type : ℕ) (content : List ℕ) (s : ℕ) (granted : judgePut l (filesIn l img) name type content ≡ Grant s) where
     abbrev ks : List ℕ
     ks = chosen l (mapAt (bytes img)) (length content)
 

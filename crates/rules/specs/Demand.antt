@@ -28,7 +28,9 @@ use Rattle.map.specs.Map.{mapAt, freeCount}
 use Rattle.view.specs.Disk.{File}
 use Rattle.view.specs.Counting.{takes}
 use Rattle.image.specs.Image.{filesIn, DiskRules}
-use Rattle.record.specs.Record.{shapeOf, Files, Call, check, page, put, remove, Outcome, accepted, refused, Judged, refuse, grant, refuseIf, named, isEmpty, slotOf, emptySlot, free, judgePut, putting, stepFiles}
+use Rattle.record.specs.Record.{shapeOf, Files, Call, check, page, put, remove, Outcome, accepted, refused, refuseIf, named, isEmpty, slotOf, emptySlot, free, judgePut, putting, stepFiles}
+use Rattle.record.specs.declared.Judged.{Judged}
+use Rattle.record.specs.declared.Judged.the-variants.{Refuse, Grant}
 use Rattle.record.specs.Update.{area-split, free-is}
 use Rattle.record.specs.Step.{imageAfter, stepImage, step}
 use Rattle.record.specs.Others as record-others
@@ -130,7 +132,7 @@ others k d f n img e c t file there spared =
 -- ---- room
 
 -- a put that is judged only by its room and its length answers 15 exactly for lack of room
-only-room : (img : List ℕ) (t u : Bool) (s : ℕ) → (putting img (λ s. img) (refuseIf t 15 (refuseIf u 16 (grant s))) .answer ≡ refused 15 0) ↔ (t ≡ true)
+only-room : (img : List ℕ) (t u : Bool) (s : ℕ) → (putting img (λ s. img) (refuseIf t 15 (refuseIf u 16 (Grant s))) .answer ≡ refused 15 0) ↔ (t ≡ true)
 only-room img true u s = (λ e. refl, λ e. refl)
 only-room img false true s = (λ e. let z : _≡_ {A = ℕ} 16 15 = cc in absurd (omega arith), λ e. absurd (true≢false (sym e)))
 only-room img false false s = (λ e. let z : _≡_ {A = ℕ} 0 1 = cc in absurd (omega arith), λ e. absurd (true≢false (sym e)))
@@ -160,7 +162,7 @@ module _ (k : Kind) (d : Density) (f n : ℕ) (img : List ℕ) (yes : checkOf im
 
   -- such a put is judged by its room and its length
   judged : legalType l type ≡ true → legalName l name ≡ true → slotOf l files name ≡ Nowhere → (length content ≡ 0 → ⊥) → (s : ℕ) → emptySlot l files ≡ At s
-      → judgePut l files name type content ≡ refuseIf (ltb n (blocksFor (length content))) 15 (refuseIf (ltb 16777215 (length content)) 16 (grant s))
+      → judgePut l files name type content ≡ refuseIf (ltb n (blocksFor (length content))) 15 (refuseIf (ltb 16777215 (length content)) 16 (Grant s))
   unfolding judgePut
   judged type-legal name-legal new some-content s slot =
       let fr : free l files ≡ n =
@@ -169,8 +171,8 @@ module _ (k : Kind) (d : Density) (f n : ℕ) (img : List ℕ) (yes : checkOf im
 
   put-answer : (j : Judged) → judgePut l files name type content ≡ j → callOf img (put name type content) .answer ≡ putting img (λ s. img) j .answer
   unfolding stepImage stepFiles
-  put-answer (refuse number place) e = ap (λ (x : Outcome (List ℕ)). x .answer) (call-is k d img (put name type content) (accepted-rules k d f n img yes)) ∙ rw e refl
-  put-answer (grant s) e = ap (λ (x : Outcome (List ℕ)). x .answer) (call-is k d img (put name type content) (accepted-rules k d f n img yes)) ∙ rw e refl
+  put-answer (Refuse number place) e = ap (λ (x : Outcome (List ℕ)). x .answer) (call-is k d img (put name type content) (accepted-rules k d f n img yes)) ∙ rw e refl
+  put-answer (Grant s) e = ap (λ (x : Outcome (List ℕ)). x .answer) (call-is k d img (put name type content) (accepted-rules k d f n img yes)) ∙ rw e refl
 
   -- A put with a legal type, a legal new name, some content and an empty slot is refused for room exactly if it needs more blocks
   -- than are free.
@@ -180,7 +182,7 @@ module _ (k : Kind) (d : Density) (f n : ℕ) (img : List ℕ) (yes : checkOf im
       let slot = some-slot s inside empty in
       let t = ltb n (blocksFor (length content)) in
       let u = ltb 16777215 (length content) in
-      let a = put-answer (refuseIf t 15 (refuseIf u 16 (grant (slot .0)))) (judged type-legal name-legal (no-slot new) some-content (slot .0) (slot .1)) in
+      let a = put-answer (refuseIf t 15 (refuseIf u 16 (Grant (slot .0)))) (judged type-legal name-legal (no-slot new) some-content (slot .0) (slot .1)) in
       let w = only-room img t u (slot .0) in
       (λ e. ltb-true n (blocksFor (length content)) (w .0 (sym a ∙ e)), λ h. a ∙ w .1 (lt-ltb n (blocksFor (length content)) h))
 

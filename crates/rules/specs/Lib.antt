@@ -2,3 +2,4 @@ pub mod Check
 pub mod Accepted
 pub mod Head
 pub mod Demand
+pub mod Refused

@@ -17,7 +17,8 @@ use Rattle.map.specs.Map.{mapAt}
 use Rattle.map.specs.Chains.{Linked}
 use Rattle.view.specs.Disk.{filesOf}
 use Rattle.image.specs.Image.{entryAt, viewOf, filesIn, chosen, putImage}
-use Rattle.record.specs.Record.{Call, put, grant, judgePut}
+use Rattle.record.specs.Record.{Call, put, judgePut}
+use Rattle.record.specs.declared.Judged.the-variants.{Grant}
 use Rattle.record.specs.Update.{put-effect}
 use Rattle.rules.specs.declared.Checked.{Checked}
 use Rattle.rules.specs.declared.Checked.the-variants.{Accepted, Refused}
@@ -106,7 +107,7 @@ p1-accepted = sparse-check 819200 zeros tt ∙ refl
 abbrev content : List ℕ
 content = replicate 1025 7
 
-granted : judgePut low (filesIn low p1) name 65 content ≡ grant 0
+granted : judgePut low (filesIn low p1) name 65 content ≡ Grant 0
 unfolding judgePut filesOf entryAt
 granted = ap (λ (b : ℕ → ℕ). judgePut low (filesOf low (viewOf low b)) name 65 content) p1-reads
 

@@ -1,6 +1,5 @@
 -- `calls::find` meets its contract: a refused image answers the check's refusal, an accepted one what the record says.
 -- The check's answer is taken apart, and the layout is that of its kind and density. Assumes nothing.
-use mathlib.Core.Path.{_∙_}
 use denote.Ref.{now}
 use borrow.Author.Needs.{needs}
 use Rattle.calls.specs.Answers.{call-refused, findCall}
@@ -25,19 +24,22 @@ returns c =
 layout-of-requires : tie.Need-layout-of-requires
 layout-of-requires c κs = search needs
 
-find-named-requires : tie.Need-find-named-requires
-find-named-requires c κs =
+judge-name-requires : tie.Need-judge-name-requires
+judge-name-requires c κs =
     let k = c .before .before .before .before in
     let img = now (k .before .before .before .args .image) in
     let yes = c .before .before .checked .given .1 in
     (done-right img (k .check .ensures) yes (c .layout-of .ensures), done-rules img (k .check .ensures) yes (c .layout-of .ensures))
 
+found-by-requires : tie.Need-found-by-requires
+found-by-requires c κs = search needs
+
 returns-2 : tie.Need-returns-2
 returns-2 c =
-    let y = c .before in
+    let y = c .before .before in
     let k = y .before .before .before .before in
     let a = k .before .before .before .args in
-    c .find-named .ensures ∙ find-done (now (a .image)) (k .check .ensures) (y .before .before .checked .given .1) (y .layout-of .ensures) (now (a .name))
+    find-done (now (a .image)) (k .check .ensures) (y .before .before .checked .given .1) (y .layout-of .ensures) (now (a .name)) (c .before .judge-name .ensures) (c .found-by .ensures)
 
 pub find-spec : {M : Type 1} → statement M
 find-spec =
@@ -48,5 +50,6 @@ find-spec =
     enum-told
     returns
     layout-of-requires
-    find-named-requires
+    judge-name-requires
+    found-by-requires
     returns-2)

@@ -1,0 +1,50 @@
+-- `calls::judge_name` meets its contract: an illegal name is refused by 11, a name that no slot has by 10, else its slot is granted.
+-- By the test of the name and the slot found. Assumes nothing.
+use mathlib.Core.Path.{_≡_, sym, _∙_}
+use mathlib.Core.Bool.{true}
+use denote.Ref.{now}
+use borrow.Author.Needs.{needs}
+use borrow.Author.Tests.{not-true, not-false}
+use Rattle.names.specs.Names.{legalName}
+use Rattle.calls.specs.Finding.{judge-illegal, judge-found, judge-none}
+use Rattle.calls.proofs.judge_name.Statement.{statement}
+use Rattle.calls.proofs.judge_name.Tie as tie
+
+-- past the first test the name is legal
+legal : (c : tie.Else1) → let a = c .before .before .before .before .args in legalName (a .layout) (now (a .name)) ≡ true
+legal c = sym (c .before .is-name .ensures) ∙ not-false _ (c .if1 .left)
+
+is-name-requires : tie.Need-is-name-requires
+is-name-requires c κs = search needs
+
+returns : tie.Need-returns
+returns c = judge-illegal _ _ _ (sym (c .before .is-name .ensures) ∙ not-true _ (c .if1 .taken))
+
+slot-named-requires : tie.Need-slot-named-requires
+slot-named-requires c κs =
+    let p = c .before .before .before .before in
+    (p .pre .0, p .pre .1, legal c)
+
+enum-known-found : tie.Need-enum-known-found
+enum-known-found c = search needs
+
+enum-told : tie.Need-enum-told
+enum-told c = search needs
+
+returns-2 : tie.Need-returns-2
+returns-2 c = let d = c .before .before .before in judge-found _ _ _ (legal (d .before)) (d .slot-named .ensures) (c .before .found .given .1)
+
+returns-3 : tie.Need-returns-3
+returns-3 c = let d = c .before .before in judge-none _ _ _ (legal (d .before)) (d .slot-named .ensures) (c .enum-told .given .1)
+
+pub judge-name-spec : {M : Type 1} → statement M
+judge-name-spec =
+    tie.close
+    (tie.spec
+    is-name-requires
+    returns
+    slot-named-requires
+    enum-known-found
+    enum-told
+    returns-2
+    returns-3)

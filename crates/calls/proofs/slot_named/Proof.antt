@@ -1,0 +1,45 @@
+-- `calls::slot_named` meets its contract: the lowest slot with the keys of the name's area is the record's slot of the name.
+-- On a valid disk a slot has the name exactly if it has the name's area. Assumes nothing.
+use native.Mathlib.Omega.{arith}
+use denote.Ref.{now}
+use borrow.Author.Needs.{needs}
+use Rattle.calls.specs.Finding.{found-slot}
+use Rattle.calls.proofs.slot_named.Statement.{statement}
+use Rattle.calls.proofs.slot_named.Tie as tie
+
+area-of-requires : tie.Need-area-of-requires
+area-of-requires c κs = search needs
+
+slice-aggregate-key : tie.Need-slice-aggregate-key
+slice-aggregate-key c = search needs
+
+key-requires : tie.Need-key-requires
+key-requires c κs = search needs
+
+slice-aggregate-key-2 : tie.Need-slice-aggregate-key-2
+slice-aggregate-key-2 c = search needs
+
+key-requires-2 : tie.Need-key-requires-2
+key-requires-2 c κs = search needs
+
+find-keys-requires : tie.Need-find-keys-requires
+find-keys-requires c κs = search needs
+
+returns : tie.Need-returns
+returns c =
+    let k = c .before .before .before .before .before .before .before in
+    let p = k .before in
+    found-slot (p .args .layout) (p .pre .0) (now (p .args .image)) (p .pre .1) (now (p .args .name)) (p .pre .2) (λ i. omega (arith, k .shared-slice-known .given i))
+    (c .before .before .before .before .before .area-of .ensures) (c .before .before .before .key .ensures) (c .before .key2 .ensures) (c .find-keys .ensures)
+
+pub slot-named-spec : {M : Type 1} → statement M
+slot-named-spec =
+    tie.close
+    (tie.spec
+    area-of-requires
+    slice-aggregate-key
+    key-requires
+    slice-aggregate-key-2
+    key-requires-2
+    find-keys-requires
+    returns)
