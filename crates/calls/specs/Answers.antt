@@ -7,7 +7,7 @@ use lib.ListN.{take, replicate}
 use Rattle.laws.specs.Padded.{padded, padded-nil}
 use Rattle.layout.specs.declared.Kind.{Kind}
 use Rattle.layout.specs.declared.Density.{Density}
-use Rattle.record.specs.Record.{shapeOf, Call, list, find, page, Answer, accepted, entry, slotIs, paged, done, refused, Outcome}
+use Rattle.record.specs.Record.{shapeOf, Call, list, find, page, put, remove, Answer, accepted, entry, slotIs, paged, done, refused, Outcome}
 use Rattle.record.specs.declared.Judged.{Judged}
 use Rattle.record.specs.declared.Judged.the-variants.{Refuse, Grant}
 use Rattle.record.specs.Step.{stepImage}
@@ -18,6 +18,8 @@ use Rattle.calls.specs.declared.Found.{Found}
 use Rattle.calls.specs.declared.Found.the-variants as found
 use Rattle.calls.specs.declared.Paged.{Paged}
 use Rattle.calls.specs.declared.Paged.the-variants as pages
+use Rattle.calls.specs.declared.Removed.{Removed}
+use Rattle.calls.specs.declared.Removed.the-variants as removals
 use Rattle.calls.specs.declared.Entry.{Entry}
 use Rattle.calls.specs.declared.Entry.the-variants as entries
 use Rattle.calls.specs.declared.Listed.{Listed}
@@ -38,6 +40,12 @@ abbrev pub pagedOf : Paged → Answer
 pagedOf (pages.Page count end) = paged count end
 pagedOf (pages.Refusal number place) = refused number place
 pagedOf (pages.Unchecked c) = answerOf c
+
+-- Remove's.
+abbrev pub removedOf : Removed → Answer
+removedOf removals.Done = done
+removedOf (removals.Refusal number place) = refused number place
+removedOf (removals.Unchecked c) = answerOf c
 
 -- List's: the name is the first letters of the 12 bytes beside the answer.
 abbrev pub entryOf : Entry → List ℕ → Answer
@@ -83,6 +91,12 @@ findCall name = find name
 
 abbrev pub pageCall : ℕ → ℕ → List ℕ → Call
 pageCall slot offset out = page slot offset out
+
+abbrev pub putCall : List ℕ → ℕ → List ℕ → Call
+putCall name type content = put name type content
+
+abbrev pub removeCall : List ℕ → Call
+removeCall name = remove name
 
 -- ---- by the check's answer
 

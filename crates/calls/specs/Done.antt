@@ -4,26 +4,37 @@ use mathlib.Core.Path.{_≡_, refl, sym, _∙_}
 use mathlib.Core.Bool.{Bool, true, false}
 use mathlib.Core.List.{List, []}
 use mathlib.Core.Option.{Option, none, some}
-use Prim.Native.Nat.{ℕ}
+use Prim.Native.Nat.{ℕ, _-_, _≤_, _<_}
+use native.Mathlib.Omega.{arith}
 use lib.Dec.{ltb}
 use lib.ListN.{length}
+use borrow.Author.Tests.{ltb-false}
+use Rattle.laws.specs.Reader.{bytes}
 use Rattle.layout.specs.declared.Kind.{Kind}
 use Rattle.layout.specs.declared.Density.{Density}
 use Rattle.layout.specs.declared.Layout.{Layout}
-use Rattle.layout.specs.Layouts.{layoutOf}
+use Rattle.layout.specs.Layouts.{layoutOf, imageLength}
 use Rattle.layout.specs.Right.{LayoutRight, layout-right}
+use Rattle.blocks.specs.Blocks.{blocksFor, linksFor}
+use Rattle.names.specs.Names.{legalName}
+use Rattle.map.specs.Map.{mapAt, freeBlocks, freeCount, Chained}
+use Rattle.map.specs.Free.{free-count}
 use Rattle.view.specs.Disk.{File}
-use Rattle.image.specs.Image.{filesIn, DiskRules}
-use Rattle.record.specs.Record.{Shape, shapeOf, list, find, page, judgeName, fileAt, listing, finding, paging}
+use Rattle.image.specs.Image.{viewOf, filesIn, DiskRules, putImage, removeImage}
+use Rattle.changes.specs.Changes.{Puttable}
+use Rattle.record.specs.Record.{Shape, shapeOf, Files, list, find, page, put, remove, slotIs, done, refused, free, judgeName, judgePut, fileAt, listing, finding, paging, putting, removing}
+use Rattle.record.specs.Granted.{granted-put}
+use Rattle.record.specs.Update.{free-is, put-slot, content-some, remove-slot}
 use Rattle.record.specs.declared.Judged.{Judged}
 use Rattle.record.specs.declared.Judged.the-variants.{Refuse, Grant}
-use Rattle.record.specs.Step.{stepImage}
+use Rattle.record.specs.Step.{after, stepImage}
 use Rattle.rules.specs.declared.Checked.{Checked}
 use Rattle.rules.specs.declared.Checked.the-variants.{Accepted}
 use Rattle.rules.specs.Check.{checkOf, callOf}
-use Rattle.rules.specs.Accepted.{accepted-rules}
+use Rattle.rules.specs.Accepted.{accepted-rules, accepted-counts}
 use Rattle.calls.specs.Answers.{came, foundOf, foundBy, call-accepted}
 use Rattle.calls.specs.declared.Found.{Found}
+use Rattle.calls.specs.Paging.{size-some}
 
 -- ---- the record's answer is the same whatever the state is, files or an image
 
@@ -56,6 +67,25 @@ module _ (shape : Shape) (img : List ℕ) where
   unfolding stepImage
   step-find name = finding-on (judgeName l (filesIn l img) name)
 
+  putting-on : (next : ℕ → Files) (change : ℕ → List ℕ) (j : Judged)
+      → came (putting (filesIn l img) next j .answer) (putting (filesIn l img) next j .output) (after img change j) ≡ putting img change j
+  putting-on next change (Refuse n p) = refl
+  putting-on next change (Grant s) = refl
+
+  removing-on : (next : ℕ → Files) (change : ℕ → List ℕ) (j : Judged)
+      → came (removing (filesIn l img) next j .answer) (removing (filesIn l img) next j .output) (after img change j) ≡ removing img change j
+  removing-on next change (Refuse n p) = refl
+  removing-on next change (Grant s) = refl
+
+  step-put : (name : List ℕ) (type : ℕ) (content : List ℕ)
+      → stepImage shape img (put name type content) ≡ putting img (λ s. putImage l img s name type content) (judgePut l (filesIn l img) name type content)
+  unfolding stepImage
+  step-put name type content = putting-on _ (λ s. putImage l img s name type content) (judgePut l (filesIn l img) name type content)
+
+  step-remove : (name : List ℕ) → stepImage shape img (remove name) ≡ removing img (removeImage l img) (judgeName l (filesIn l img) name)
+  unfolding stepImage
+  step-remove name = removing-on _ (removeImage l img) (judgeName l (filesIn l img) name)
+
   step-page : (s offset : ℕ) (out : List ℕ) → stepImage shape img (page s offset out) ≡ paging img (fileAt l (filesIn l img) s) offset out
   unfolding stepImage
   step-page s offset out = paging-on (fileAt l (filesIn l img) s) offset out
@@ -64,6 +94,11 @@ module _ (shape : Shape) (img : List ℕ) where
 found-came : {img : List ℕ} (j : Judged) → came (foundOf (foundBy j)) [] img ≡ finding img j
 found-came (Refuse n p) = refl
 found-came (Grant s) = refl
+
+-- as many free blocks as the map counts
+free-length : (l : Layout) (m : ℕ → ℕ) → length (freeBlocks l m) ≡ freeCount l m
+unfolding freeBlocks freeCount
+free-length l m = free-count m (l .first) (l .blocks - l .first)
 
 -- ---- an image that the check accepted
 
@@ -74,6 +109,10 @@ module _ (img : List ℕ) {c : Checked} {k : Kind} {d : Density} {f n : ℕ} (ch
   pub done-rules : DiskRules l img
   done-rules = rw made (accepted-rules k d f n img (sym checked ∙ yes))
 
+  -- its free blocks are those that the check gave
+  pub done-free : n ≡ freeCount l (mapAt (bytes img))
+  done-free = rw made (accepted-counts k d f n img (sym checked ∙ yes) .1)
+
   pub list-done : (s : ℕ) → listing img (fileAt l (filesIn l img) s) ≡ callOf img (list s)
   list-done s = rw made (sym (call-accepted img (list s) checked yes ∙ step-list (shapeOf k d) img s))
 
@@ -83,3 +122,52 @@ module _ (img : List ℕ) {c : Checked} {k : Kind} {d : Density} {f n : ℕ} (ch
 
   pub page-done : (s offset : ℕ) (out : List ℕ) → paging img (fileAt l (filesIn l img) s) offset out ≡ callOf img (page s offset out)
   page-done s offset out = rw made (sym (call-accepted img (page s offset out) checked yes ∙ step-page (shapeOf k d) img s offset out))
+
+  -- put and remove, j being the call's judgement
+  module _ (name : List ℕ) (type : ℕ) (content : List ℕ) {j : Judged} (judged : j ≡ judgePut l (filesIn l img) name type content) where
+    put-is : putting img (λ s. putImage l img s name type content) j ≡ callOf img (put name type content)
+    put-is = rw (judged, made) (sym (call-accepted img (put name type content) checked yes ∙ step-put (shapeOf k d) img name type content))
+
+    put-refused : {number place : ℕ} → j ≡ Refuse number place → came (refused number place) [] img ≡ callOf img (put name type content)
+    put-refused e = rw e at put-is
+
+    pub put-found : {number place : ℕ} {r : Found} → j ≡ Refuse number place → r ≡ foundBy j → came (foundOf r) [] img ≡ callOf img (put name type content)
+    put-found e t = rw (t, e) (put-refused e)
+
+    pub put-granted : {s : ℕ} {after : List ℕ} → j ≡ Grant s → after ≡ putImage l img s name type content → came (slotIs s) [] after ≡ callOf img (put name type content)
+    put-granted e t = rw t (rw e at put-is)
+
+    -- what the granted put needs
+    pub put-needs : {s : ℕ} → j ≡ Grant s → Puttable l img s content
+    put-needs {s} e =
+        let g = sym judged ∙ e in
+        let q = granted-put l (filesIn l img) name type content s g in
+        let room = ltb-false (free l (filesIn l img)) (blocksFor (length content)) (q .room) in
+        record {
+          right = done-right;
+          whole = done-rules .size;
+          slot = put-slot l done-right img done-rules name type content s g .0;
+          some-content = content-some l done-right img done-rules name type content s g;
+          room = omega (arith, free-is l done-right img done-rules, free-length l (mapAt (bytes img)));
+        }
+
+    pub put-legal : {s : ℕ} → j ≡ Grant s → legalName l name ≡ true
+    put-legal {s} e = granted-put l (filesIn l img) name type content s (sym judged ∙ e) .name-legal
+
+  module _ (name : List ℕ) {j : Judged} (judged : j ≡ judgeName l (filesIn l img) name) where
+    remove-is : removing img (removeImage l img) j ≡ callOf img (remove name)
+    remove-is = rw (judged, made) (sym (call-accepted img (remove name) checked yes ∙ step-remove (shapeOf k d) img name))
+
+    pub remove-refused : {number place : ℕ} → j ≡ Refuse number place → came (refused number place) [] img ≡ callOf img (remove name)
+    remove-refused e = rw e at remove-is
+
+    pub remove-granted : {s : ℕ} {after : List ℕ} → j ≡ Grant s → after ≡ removeImage l img s → came done [] after ≡ callOf img (remove name)
+    remove-granted e t = rw t (rw e at remove-is)
+
+    -- the slot that is removed is used, so its chain is faultless
+    pub remove-needs : {s : ℕ} → j ≡ Grant s
+        → LayoutRight l × (length img ≡ imageLength l) × (s < l .slots) × (1 ≤ viewOf l (bytes img) .entry s .size)
+        × Chained l (mapAt (bytes img)) (linksFor (viewOf l (bytes img) .entry s .size)) (viewOf l (bytes img) .entry s .start)
+    remove-needs {s} e =
+        let u = remove-slot l done-right img done-rules name s (sym judged ∙ e) in
+        (done-right, done-rules .size, u .0, size-some l done-right img done-rules s (u .0) (u .1) refl, done-rules .valid .linked s u)

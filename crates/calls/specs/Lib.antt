@@ -4,3 +4,4 @@ pub mod Slots
 pub mod Listing
 pub mod Finding
 pub mod Paging
+pub mod Putting

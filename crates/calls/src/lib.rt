@@ -1,13 +1,18 @@
 // The calls on any bytes: each takes the check's answer apart first, and promises what `callOf` says it comes to.
 ghost use mathlib.Core.Path.{_≡_};
-ghost use mathlib.Core.List.{[]};
+ghost use mathlib.Core.List.{List, []};
+ghost use Prim.Native.Nat.{ℕ, _≤_};
+ghost use lib.ListN.{length};
+ghost use Rattle.laws.specs.Reader.{bytes};
+ghost use Rattle.map.specs.Map.{mapAt, freeCount};
+ghost use Rattle.calls.specs.Putting.{roomFor};
 ghost use Rattle.layout.specs.Right.{LayoutRight};
 ghost use Rattle.image.specs.Image.{filesIn, DiskRules};
-ghost use Rattle.record.specs.Record.{slotOf, fileAt, judgeName, listing, paging};
+ghost use Rattle.record.specs.Record.{slotOf, fileAt, judgeName, judgePut, listing, paging};
 ghost use Rattle.names.specs.Names.{legalName};
 ghost use mathlib.Core.Bool.{true};
 ghost use Rattle.rules.specs.Check.{callOf};
-ghost use Rattle.calls.specs.Answers.{came, foundOf, foundBy, pagedOf, Lists, noFile, unlistedOf, listCall, findCall, pageCall};
+ghost use Rattle.calls.specs.Answers.{came, foundOf, foundBy, pagedOf, Lists, noFile, unlistedOf, listCall, findCall, pageCall, putCall, removeCall, removedOf};
 
 // A slot, a refusal of the call's own, or the check's refusal.
 pub enum Found {
@@ -19,6 +24,13 @@ pub enum Found {
 // How many bytes a page has and whether the file ends with them, a refusal of the call's own, or the check's refusal.
 pub enum Paged {
     Page { count: usize, end: bool },
+    Refusal { number: usize, place: usize },
+    Unchecked(rules::Checked),
+}
+
+// Done, a refusal of the call's own, or the check's refusal.
+pub enum Removed {
+    Done,
     Refusal { number: usize, place: usize },
     Unchecked(rules::Checked),
 }
@@ -137,6 +149,74 @@ fn found_by(judged: record::Judged) -> Found
     }
 }
 
+// Put's last refusals, for a content of some length: 15, 16.
+fn judge_room(free: usize, size: usize, slot: usize) -> record::Judged
+    requires { ⌜ 1 ≤ size ⌝ }
+    ensures { λ r. ⌜ r ≡ roomFor free size slot ⌝ }
+{
+    let wanted = (size - 1) / 1024 + 1;
+    if free < wanted {
+        return record::Judged::Refuse {
+            number: 15,
+            place: 0,
+        };
+    }
+    if size > 16777215 {
+        return record::Judged::Refuse {
+            number: 16,
+            place: 0,
+        };
+    }
+    record::Judged::Grant(slot)
+}
+
+// How put is judged on an accepted image with so many free blocks: 11, 13, 12, 14, 15, 16.
+fn judge_put(
+    image: &[u8],
+    layout: layout::Layout,
+    free: usize,
+    name: &[u8],
+    letter: u8,
+    size: usize,
+) -> record::Judged
+    requires { ⌜ LayoutRight layout × DiskRules layout (now image) × (free ≡ freeCount layout (mapAt (bytes (now image)))) ⌝ }
+    ensures { λ r. ⌜ ((content : List ℕ) → length content ≡ size → r ≡ judgePut layout (filesIn layout (now (image .entry))) (now (name .entry)) letter content) ⌝ }
+{
+    if !names::is_name(layout, name) {
+        return record::Judged::Refuse {
+            number: 11,
+            place: 0,
+        };
+    }
+    if !names::is_type(layout, letter) {
+        return record::Judged::Refuse {
+            number: 11,
+            place: 0,
+        };
+    }
+    if size == 0 {
+        return record::Judged::Refuse {
+            number: 13,
+            place: 0,
+        };
+    }
+    let taken = slot_named(image, layout, name);
+    if let laws::Lowest::At(slot) = taken {
+        return record::Judged::Refuse {
+            number: 12,
+            place: slot,
+        };
+    }
+    let empty = slots::empty_slot(image, layout);
+    let laws::Lowest::At(slot) = empty else {
+        return record::Judged::Refuse {
+            number: 14,
+            place: 0,
+        };
+    };
+    judge_room(free, size, slot)
+}
+
 // A page of a slot's file of an accepted image: 10, 17.
 fn page_slot(
     image: &[u8],
@@ -228,4 +308,53 @@ pub fn page(image: &[u8], slot: usize, offset: usize, out: &mut [u8]) -> Paged
     };
     let layout = layout::layout_of(kind, density);
     page_slot(image, layout, slot, offset, out)
+}
+
+// Puts a file: its slot.
+pub fn put(image: &mut [u8], name: &[u8], letter: u8, content: &[u8]) -> Found
+    ensures { λ r. ⌜ came (foundOf r) [] (now (image .exit)) ≡ callOf (now (image .entry)) (putCall (now (name .entry)) letter (now (content .entry))) ⌝ }
+{
+    let checked = disk::check(image);
+    let rules::Checked::Accepted {
+        kind,
+        density,
+        files: _,
+        free,
+    } = checked
+    else {
+        return Found::Unchecked(checked);
+    };
+    let layout = layout::layout_of(kind, density);
+    let judged = judge_put(image, layout, free, name, letter, content.len());
+    let record::Judged::Grant(slot) = judged else {
+        return found_by(judged);
+    };
+    let area = names::area_of(layout, name);
+    changes::put_slot(image, layout, slot, area, letter, content);
+    Found::At(slot)
+}
+
+// Removes the file with a name.
+pub fn remove(image: &mut [u8], name: &[u8]) -> Removed
+    ensures { λ r. ⌜ came (removedOf r) [] (now (image .exit)) ≡ callOf (now (image .entry)) (removeCall (now (name .entry))) ⌝ }
+{
+    let checked = disk::check(image);
+    let rules::Checked::Accepted {
+        kind,
+        density,
+        files: _,
+        free: _,
+    } = checked
+    else {
+        return Removed::Unchecked(checked);
+    };
+    let layout = layout::layout_of(kind, density);
+    let judged = judge_name(image, layout, name);
+    match judged {
+        record::Judged::Refuse { number, place } => Removed::Refusal { number, place },
+        record::Judged::Grant(slot) => {
+            changes::remove_slot(image, layout, slot);
+            Removed::Done
+        }
+    }
 }

@@ -86,7 +86,7 @@ module _ (l : Layout) (right : LayoutRight l) (img : List ℕ) (rules : DiskRule
   -- ---- remove
 
   module _ (name : List ℕ) (s : ℕ) (granted : judgeName l (filesIn l img) name ≡ Grant s) where
-    remove-slot : Used l (viewOf l (bytes img)) s
+    pub remove-slot : Used l (viewOf l (bytes img)) s
     unfolding slotOf
     remove-slot =
         let w = at→ (λ t. named name (filesIn l img t)) 0 (l .slots) s (granted-name l (filesIn l img) name s granted) in
@@ -127,14 +127,14 @@ module _ (l : Layout) (right : LayoutRight l) (img : List ℕ) (rules : DiskRule
     passed : Puts l (filesIn l img) name type content s
     passed = granted-put l (filesIn l img) name type content s granted
 
-    put-slot : (s < l .slots) × (used (entryAt (bytes img) (slotOffset l s)) ≡ false)
+    pub put-slot : (s < l .slots) × (used (entryAt (bytes img) (slotOffset l s)) ≡ false)
     unfolding emptySlot
     put-slot =
         let w = at→ (λ t. isEmpty (filesIn l img t)) 0 (l .slots) s (passed .slot) in
         let e = empty-used l (viewOf l (bytes img)) s (omega (arith, w .1)) in
         (omega (arith, w .1), not-true (used (entryAt (bytes img) (slotOffset l s))) (sym e ∙ w .2))
 
-    content-some : 1 ≤ length content
+    pub content-some : 1 ≤ length content
     content-some = let n : length content ≡ 0 → ⊥ = eqb-false (length content) 0 (passed .some-content) in omega arith
 
     content-short : length content < 16777216

@@ -1,0 +1,98 @@
+-- `calls::remove` meets its contract: a refused image answers the check's refusal, a refused remove the record's, and a granted one leaves remove's image.
+-- The check's answer is taken apart, then the judgement. Assumes nothing.
+use denote.Ref.{now}
+use borrow.Author.Needs.{needs}
+use Rattle.calls.specs.Answers.{call-refused, removeCall}
+use Rattle.calls.specs.Done.{done-right, done-rules, remove-needs, remove-refused, remove-granted}
+use Rattle.calls.proofs.remove.Statement.{statement}
+use Rattle.calls.proofs.remove.Tie as tie
+
+check-requires : tie.Need-check-requires
+check-requires c κs = search needs
+
+enum-known-checked : tie.Need-enum-known-checked
+enum-known-checked c = search needs
+
+enum-told : tie.Need-enum-told
+enum-told c = search needs
+
+same-length : tie.Need-same-length
+same-length c = search needs
+
+returns : tie.Need-returns
+returns c =
+    let a = c .before .before .before .before .before .before .args in
+    call-refused (now (a .image)) (removeCall (now (a .name))) (c .before .before .check .ensures) (c .enum-told .given .1)
+
+layout-of-requires : tie.Need-layout-of-requires
+layout-of-requires c κs = search needs
+
+judge-name-requires : tie.Need-judge-name-requires
+judge-name-requires c κs =
+    let y = c .before in
+    let k = y .before .before .before .before in
+    let img = now (k .before .before .before .before .args .image) in
+    let yes = y .before .before .checked .given .1 in
+    (done-right img (k .check .ensures) yes (y .layout-of .ensures), done-rules img (k .check .ensures) yes (y .layout-of .ensures))
+
+enum-known-judged : tie.Need-enum-known-judged
+enum-known-judged c = search needs
+
+enum-known-judged-2 : tie.Need-enum-known-judged-2
+enum-known-judged-2 c = search needs
+
+remove-slot-requires : tie.Need-remove-slot-requires
+remove-slot-requires c κs =
+    let j = c .before .before .before .before in
+    let y = j .before .before in
+    let k = y .before .before .before .before in
+    let a = k .before .before .before .before .args in
+    let img = now (a .image) in
+    let yes = y .before .before .checked .given .1 in
+    remove-needs img (k .check .ensures) yes (y .layout-of .ensures) (now (a .name)) (j .judge-name .ensures) (c .before .before .judged2 .given .1)
+
+same-length-2 : tie.Need-same-length-2
+same-length-2 c = search needs
+
+returns-2 : tie.Need-returns-2
+returns-2 c =
+    let j = c .before .before .before in
+    let y = j .before .before in
+    let k = y .before .before .before .before in
+    let a = k .before .before .before .before .args in
+    let img = now (a .image) in
+    let yes = y .before .before .checked .given .1 in
+    remove-refused img (k .check .ensures) yes (y .layout-of .ensures) (now (a .name)) (j .judge-name .ensures) (c .before .judged .given .1)
+
+same-length-3 : tie.Need-same-length-3
+same-length-3 c = search needs
+
+returns-3 : tie.Need-returns-3
+returns-3 c =
+    let j = c .before .before .before .before .before .before .before in
+    let y = j .before .before in
+    let k = y .before .before .before .before in
+    let a = k .before .before .before .before .args in
+    let img = now (a .image) in
+    let yes = y .before .before .checked .given .1 in
+    let g = c .before .before in
+    remove-granted img (k .check .ensures) yes (y .layout-of .ensures) (now (a .name)) (j .judge-name .ensures) (g .before .before .before .judged2 .given .1) (g .remove-slot .ensures)
+
+pub remove-spec : {M : Type 1} → statement M
+remove-spec =
+    tie.close
+    (tie.spec
+    check-requires
+    enum-known-checked
+    enum-told
+    same-length
+    returns
+    layout-of-requires
+    judge-name-requires
+    enum-known-judged
+    enum-known-judged-2
+    remove-slot-requires
+    same-length-2
+    returns-2
+    same-length-3
+    returns-3)

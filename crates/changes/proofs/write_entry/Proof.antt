@@ -1,0 +1,81 @@
+-- `changes::write_entry` meets its contract: name area, type, length and start follow one another, so they are one write of 22 bytes.
+-- A write that goes on where another ends joins it, by `splice-append`. Assumes nothing.
+use mathlib.Core.Path.{_≡_, _∙_}
+use mathlib.Core.List.{List, [], _∷_, _++_}
+use Prim.Native.Nat.{ℕ, _+_}
+use native.Mathlib.Omega.{arith}
+use borrow.Author.Needs.{needs}
+use lib.ListN.{length, set, length-set}
+use lib.Seq.{take-all}
+use Rattle.laws.specs.Splice.{splice, part, splice-append}
+use Rattle.blocks.specs.Numbers.{digits, length-digits}
+use Rattle.image.specs.Image.{setEntry}
+use Rattle.changes.specs.Changes.{entryWith}
+use Rattle.changes.proofs.write_entry.Statement.{statement}
+use Rattle.changes.proofs.write_entry.Tie as tie
+
+-- a write that goes on where another ends, at the place that the code names
+join : (l : List ℕ) (at next : ℕ) (vs us : List ℕ) → next ≡ at + length vs → splice (splice l at vs) next us ≡ splice l at (vs ++ us)
+join l at next vs us e = rw e (splice-append l at vs us)
+
+-- type, length and start as one write after the name area
+fields : (l : List ℕ) (at type size start : ℕ) → splice (splice (set l (at + 16) type) (at + 17) (digits 3 size)) (at + 20) (digits 2 start) ≡ splice l (at + 16) (type ∷ digits 3 size ++ digits 2 start)
+fields l at type size start =
+    join (set l (at + 16) type) (at + 17) (at + 20) (digits 3 size) (digits 2 start) (omega (arith, length-digits 3 size))
+    ∙ unfold splice in join l (at + 16) (at + 17) (type ∷ []) (digits 3 size ++ digits 2 start) (omega arith)
+
+-- the four writes as one
+written : (img : List ℕ) (at : ℕ) (area : List ℕ) (type size start : ℕ) {one two three : List ℕ} → length area ≡ 16 → one ≡ splice img at (part area 0 16)
+    → two ≡ splice (set one (at + 16) type) (at + 17) (digits 3 size) → three ≡ splice two (at + 20) (digits 2 start)
+    → three ≡ setEntry img at (entryWith area type size start)
+unfolding setEntry part
+written img at area type size start n p q r =
+    rw (r, q, p, take-all 16 area (omega arith)) (fields (splice img at area) at type size start ∙ join img at (at + 16) area _ (omega arith))
+
+slice-aggregate-copy-part : tie.Need-slice-aggregate-copy-part
+slice-aggregate-copy-part c = search needs
+
+copy-part-requires : tie.Need-copy-part-requires
+copy-part-requires c κs = search needs
+
+add-image : tie.Need-add-image
+add-image c = search needs
+
+slice-write-image : tie.Need-slice-write-image
+slice-write-image c = search needs
+
+add-store3 : tie.Need-add-store3
+add-store3 c = search needs
+
+add-store2 : tie.Need-add-store2
+add-store2 c = search needs
+
+store3-requires : tie.Need-store3-requires
+store3-requires c κs = simp length-set (omega arith)
+
+store2-requires : tie.Need-store2-requires
+store2-requires c κs = omega (arith, simp length-set at (c .before .before .before .store3 .kept))
+
+same-length : tie.Need-same-length
+same-length c = omega (arith, simp length-set at (c .before .before .before .before .before .before .store3 .kept))
+
+returns : tie.Need-returns
+returns c =
+    let a = c .before .before .before .before .before .before .before .before .before .before .before .before .before .before .args in
+    let copied = c .before .before .before .before .before .before .before .before .before .before in
+    written (a .image .now) (a .at) (a .t3) (a .letter) (a .size) (a .start) (omega arith) (copied .copy-part .ensures) (c .before .before .before .before .before .before .store3 .ensures) (c .before .before .store2 .ensures)
+
+pub write-entry-spec : {M : Type 1} → statement M
+write-entry-spec =
+    tie.close
+    (tie.spec
+    slice-aggregate-copy-part
+    copy-part-requires
+    add-image
+    slice-write-image
+    add-store3
+    store3-requires
+    add-store2
+    store2-requires
+    same-length
+    returns)
