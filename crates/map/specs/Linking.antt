@@ -52,7 +52,7 @@ set-outside img b v n i h (inr p) = set-off img b v i (inr (omega arith))
 pub length-link : (img bs : List ℕ) (mark : ℕ) → length (linkBlocks img bs mark) ≡ length img
 unfolding linkBlocks
 length-link img [] mark = refl
-length-link img (b ∷ bs) mark = length-link (setMap img b (firstOr bs mark)) bs mark ∙ length-set-map img b (firstOr bs mark)
+length-link img (b ∷ bs) mark = length-link (setMap img b (firstOr bs mark)) bs mark ∙ length-set-map img _ _
 
 pub link-other : (img bs : List ℕ) (mark c : ℕ) → (In c bs → ⊥) → mapAt (bytes (linkBlocks img bs mark)) c ≡ mapAt (bytes img) c
 unfolding linkBlocks
