@@ -1,0 +1,39 @@
+-- `skilletjay::checked_result` meets its contract: every field of what C gets is the answer's, its number cut to 32 bits.
+-- By cases on the check's answer, with the numbers that kind and density ensure. Assumes nothing.
+use borrow.Author.Needs.{needs}
+use Rattle.skilletjay.specs.Narrow.{accepted-narrow}
+use Rattle.skilletjay.proofs.checked_result.Statement.{statement}
+use Rattle.skilletjay.proofs.checked_result.Tie as tie
+
+enum-known-checked : tie.Need-enum-known-checked
+enum-known-checked c = search needs
+
+kind-number-requires : tie.Need-kind-number-requires
+kind-number-requires c κs = search needs
+
+density-number-requires : tie.Need-density-number-requires
+density-number-requires c κs = search needs
+
+enum-known-checked-2 : tie.Need-enum-known-checked-2
+enum-known-checked-2 c = search needs
+
+number-of-requires : tie.Need-number-of-requires
+number-of-requires c κs = search needs
+
+returns : tie.Need-returns
+returns c = accepted-narrow (c .before .before .before .checked .given .1) (c .before .kind-number .ensures) (c .density-number .ensures)
+
+returns-2 : tie.Need-returns-2
+returns-2 c = cc
+
+pub checked-result-spec : {M : Type 1} → statement M
+checked-result-spec =
+    tie.close
+    (tie.spec
+    enum-known-checked
+    kind-number-requires
+    density-number-requires
+    enum-known-checked-2
+    number-of-requires
+    returns
+    returns-2)

@@ -1,0 +1,66 @@
+-- `skilletjay::paged_result` meets its contract: every field of what C gets is the answer's, its number cut to 32 bits.
+-- By cases on the answer, and on the check's where the call made no own. Assumes nothing.
+use borrow.Author.Needs.{needs}
+use Rattle.skilletjay.proofs.paged_result.Statement.{statement}
+use Rattle.skilletjay.proofs.paged_result.Tie as tie
+
+enum-known-paged : tie.Need-enum-known-paged
+enum-known-paged c = search needs
+
+enum-known-paged-2 : tie.Need-enum-known-paged-2
+enum-known-paged-2 c = search needs
+
+number-of-requires : tie.Need-number-of-requires
+number-of-requires c κs = search needs
+
+paged-refusal-requires : tie.Need-paged-refusal-requires
+paged-refusal-requires c κs = search needs
+
+enum-known-paged-3 : tie.Need-enum-known-paged-3
+enum-known-paged-3 c = search needs
+
+enum-told : tie.Need-enum-told
+enum-told c = search needs
+
+paged-refusal-requires-2 : tie.Need-paged-refusal-requires-2
+paged-refusal-requires-2 c κs = search needs
+
+enum-known-checked : tie.Need-enum-known-checked
+enum-known-checked c = search needs
+
+number-of-requires-2 : tie.Need-number-of-requires-2
+number-of-requires-2 c κs = search needs
+
+paged-refusal-requires-3 : tie.Need-paged-refusal-requires-3
+paged-refusal-requires-3 c κs = search needs
+
+returns : tie.Need-returns
+returns c = cc
+
+returns-2 : tie.Need-returns-2
+returns-2 c = cc
+
+returns-3 : tie.Need-returns-3
+returns-3 c = cc
+
+returns-4 : tie.Need-returns-4
+returns-4 c = cc
+
+pub paged-result-spec : {M : Type 1} → statement M
+paged-result-spec =
+    tie.close
+    (tie.spec
+    enum-known-paged
+    enum-known-paged-2
+    number-of-requires
+    paged-refusal-requires
+    enum-known-paged-3
+    enum-told
+    paged-refusal-requires-2
+    enum-known-checked
+    number-of-requires-2
+    paged-refusal-requires-3
+    returns
+    returns-2
+    returns-3
+    returns-4)

@@ -1,0 +1,307 @@
+// The C interface (include/skilletjay.h): each call takes any bytes, and promises every field of its result and every byte of a lent output.
+ghost use mathlib.Core.Path.{_≡_};
+ghost use Prim.Native.Nat.{_%_};
+ghost use Rattle.record.specs.Record.{check};
+ghost use Rattle.rules.specs.Check.{answerOf, callOf};
+ghost use Rattle.calls.specs.Answers.{foundOf, pagedOf, listedOf, removedOf, listCall, findCall, pageCall, putCall, removeCall};
+ghost use Rattle.skilletjay.specs.Results.{kindNumber, densityNumber, checkedResult, listedRefusal, listedWith, listedResult, foundRefusal, foundResult, pagedRefusal, pagedResult, doneResult};
+ghost use Rattle.skilletjay.specs.Narrow.{narrow};
+
+// sj_checked: kind 900 or 1000, density 0 low or 1 high, the number of files and of free blocks.
+#[repr(C)]
+pub struct CChecked {
+    pub refusal: u32,
+    pub place: usize,
+    pub kind: u32,
+    pub density: u32,
+    pub files: usize,
+    pub free: usize,
+}
+
+// sj_listed: the name in ASCII, then zeros; the type byte; the file's length. The field `letter` is C's `type`.
+#[repr(C)]
+pub struct CListed {
+    pub refusal: u32,
+    pub place: usize,
+    pub name: [u8; 12],
+    pub letter: u8,
+    pub length: usize,
+}
+
+// sj_found
+#[repr(C)]
+pub struct CFound {
+    pub refusal: u32,
+    pub place: usize,
+    pub slot: usize,
+}
+
+// sj_paged: how many bytes were written, and whether the file ends with them.
+#[repr(C)]
+pub struct CPaged {
+    pub refusal: u32,
+    pub place: usize,
+    pub count: usize,
+    pub end: bool,
+}
+
+// sj_done
+#[repr(C)]
+pub struct CDone {
+    pub refusal: u32,
+    pub place: usize,
+}
+
+// A refusal's number in 32 bits. No call has one that this changes (`call-narrow`).
+fn number_of(number: usize) -> u32
+    ensures { λ r. ⌜ r ≡ number % 4294967296 ⌝ }
+{
+    (number % 4294967296) as u32
+}
+
+// C's number for a kind.
+fn kind_number(kind: layout::Kind) -> u32
+    ensures { λ r. ⌜ r ≡ kindNumber kind ⌝ }
+{
+    match kind {
+        layout::Kind::S900 => 900,
+        layout::Kind::S1000 => 1000,
+    }
+}
+
+// C's number for a density.
+fn density_number(density: layout::Density) -> u32
+    ensures { λ r. ⌜ r ≡ densityNumber density ⌝ }
+{
+    match density {
+        layout::Density::Low => 0,
+        layout::Density::High => 1,
+    }
+}
+
+// What C gets of the check.
+fn checked_result(checked: rules::Checked) -> CChecked
+    ensures { λ r. ⌜ r ≡ checkedResult (narrow (answerOf checked)) ⌝ }
+{
+    match checked {
+        rules::Checked::Accepted {
+            kind,
+            density,
+            files,
+            free,
+        } => CChecked {
+            refusal: 0,
+            place: 0,
+            kind: kind_number(kind),
+            density: density_number(density),
+            files,
+            free,
+        },
+        rules::Checked::Refused { number, place } => CChecked {
+            refusal: number_of(number),
+            place,
+            kind: 0,
+            density: 0,
+            files: 0,
+            free: 0,
+        },
+    }
+}
+
+// A list's result without a file: a refusal's number and place, all else 0.
+fn listed_refusal(refusal: u32, place: usize) -> CListed
+    ensures { λ r. ⌜ r ≡ listedRefusal refusal place ⌝ }
+{
+    CListed {
+        refusal,
+        place,
+        name: [0; 12],
+        letter: 0,
+        length: 0,
+    }
+}
+
+// What C gets of a listing. Its 12 bytes are zeros but for the name (`Lists`).
+fn listed_result(listed: calls::Listed) -> CListed
+    ensures { λ r. ⌜ r ≡ listedWith (narrow (listedOf listed)) (listed .name) ⌝ }
+{
+    let entry = listed.entry;
+    let name = listed.name;
+    match entry {
+        calls::Entry::File {
+            letters: _,
+            letter,
+            length,
+        } => CListed {
+            refusal: 0,
+            place: 0,
+            name,
+            letter,
+            length,
+        },
+        calls::Entry::Refusal { number, place } => listed_refusal(number_of(number), place),
+        calls::Entry::Unchecked(checked) => match checked {
+            rules::Checked::Accepted {
+                kind: _,
+                density: _,
+                files: _,
+                free: _,
+            } => listed_refusal(0, 0),
+            rules::Checked::Refused { number, place } => listed_refusal(number_of(number), place),
+        },
+    }
+}
+
+// A find's result without a slot: a refusal's number and place, all else 0.
+fn found_refusal(refusal: u32, place: usize) -> CFound
+    ensures { λ r. ⌜ r ≡ foundRefusal refusal place ⌝ }
+{
+    CFound {
+        refusal,
+        place,
+        slot: 0,
+    }
+}
+
+// What C gets of a find.
+fn found_result(found: calls::Found) -> CFound
+    ensures { λ r. ⌜ r ≡ foundResult (narrow (foundOf found)) ⌝ }
+{
+    match found {
+        calls::Found::At(slot) => CFound {
+            refusal: 0,
+            place: 0,
+            slot,
+        },
+        calls::Found::Refusal { number, place } => found_refusal(number_of(number), place),
+        calls::Found::Unchecked(checked) => match checked {
+            rules::Checked::Accepted {
+                kind: _,
+                density: _,
+                files: _,
+                free: _,
+            } => found_refusal(0, 0),
+            rules::Checked::Refused { number, place } => found_refusal(number_of(number), place),
+        },
+    }
+}
+
+// A page's result without bytes: a refusal's number and place, all else 0.
+fn paged_refusal(refusal: u32, place: usize) -> CPaged
+    ensures { λ r. ⌜ r ≡ pagedRefusal refusal place ⌝ }
+{
+    CPaged {
+        refusal,
+        place,
+        count: 0,
+        end: false,
+    }
+}
+
+// What C gets of a page.
+fn paged_result(paged: calls::Paged) -> CPaged
+    ensures { λ r. ⌜ r ≡ pagedResult (narrow (pagedOf paged)) ⌝ }
+{
+    match paged {
+        calls::Paged::Page { count, end } => CPaged {
+            refusal: 0,
+            place: 0,
+            count,
+            end,
+        },
+        calls::Paged::Refusal { number, place } => paged_refusal(number_of(number), place),
+        calls::Paged::Unchecked(checked) => match checked {
+            rules::Checked::Accepted {
+                kind: _,
+                density: _,
+                files: _,
+                free: _,
+            } => paged_refusal(0, 0),
+            rules::Checked::Refused { number, place } => paged_refusal(number_of(number), place),
+        },
+    }
+}
+
+// What C gets of a remove.
+fn done_result(removed: calls::Removed) -> CDone
+    ensures { λ r. ⌜ r ≡ doneResult (narrow (removedOf removed)) ⌝ }
+{
+    match removed {
+        calls::Removed::Done => CDone {
+            refusal: 0,
+            place: 0,
+        },
+        calls::Removed::Refusal { number, place } => CDone {
+            refusal: number_of(number),
+            place,
+        },
+        calls::Removed::Unchecked(checked) => match checked {
+            rules::Checked::Accepted {
+                kind: _,
+                density: _,
+                files: _,
+                free: _,
+            } => CDone {
+                refusal: 0,
+                place: 0,
+            },
+            rules::Checked::Refused { number, place } => CDone {
+                refusal: number_of(number),
+                place,
+            },
+        },
+    }
+}
+
+// Whether an image is accepted: refusals 1 to 9. The image is lent and kept.
+#[no_mangle]
+pub extern "C" fn sj_check(image: &[u8]) -> CChecked
+    ensures { λ r. ⌜ r ≡ checkedResult (callOf (now (image .entry)) check .answer) ⌝ }
+{
+    checked_result(disk::check(image))
+}
+
+// What a slot holds: refusals 1 to 9, then 10 if it is empty or not there. The image is lent and kept.
+#[no_mangle]
+pub extern "C" fn sj_list(image: &[u8], slot: usize) -> CListed
+    ensures { λ r. ⌜ r ≡ listedResult (callOf (now (image .entry)) (listCall slot) .answer) ⌝ }
+{
+    listed_result(calls::list(image, slot))
+}
+
+// The slot of the file with a name: refusals 1 to 9, then 11, then 10. Image and name are lent and kept.
+#[no_mangle]
+pub extern "C" fn sj_find(image: &[u8], name: &[u8]) -> CFound
+    ensures { λ r. ⌜ r ≡ foundResult (callOf (now (image .entry)) (findCall (now (name .entry))) .answer) ⌝ }
+{
+    found_result(calls::find(image, name))
+}
+
+// A file's bytes from an offset on, to the output's front: refusals 1 to 9, then 10, then 17. The image is lent and kept; the output's other
+// bytes are kept, and all of them on a refusal.
+#[no_mangle]
+pub extern "C" fn sj_page(image: &[u8], slot: usize, offset: usize, out: &mut [u8]) -> CPaged
+    ensures answer { λ r. ⌜ r ≡ pagedResult (callOf (now (image .entry)) (pageCall slot offset (now (out .entry))) .answer) ⌝ }
+    ensures output { λ _. ⌜ now (out .exit) ≡ callOf (now (image .entry)) (pageCall slot offset (now (out .entry))) .output ⌝ }
+{
+    paged_result(calls::page(image, slot, offset, out))
+}
+
+// Puts a file into the lowest empty slot and the lowest free blocks: refusals 1 to 9, then 11, 13, 12 at the slot that has the name, 14,
+// 15, 16. Name and content are lent and kept; so is the image on a refusal.
+#[no_mangle]
+pub extern "C" fn sj_put(image: &mut [u8], name: &[u8], letter: u8, content: &[u8]) -> CFound
+    ensures answer { λ r. ⌜ r ≡ foundResult (callOf (now (image .entry)) (putCall (now (name .entry)) letter (now (content .entry))) .answer) ⌝ }
+    ensures image { λ _. ⌜ now (image .exit) ≡ callOf (now (image .entry)) (putCall (now (name .entry)) letter (now (content .entry))) .state ⌝ }
+{
+    found_result(calls::put(image, name, letter, content))
+}
+
+// Removes the file with a name: refusals 1 to 9, then 11, then 10. The name is lent and kept; so is the image on a refusal.
+#[no_mangle]
+pub extern "C" fn sj_remove(image: &mut [u8], name: &[u8]) -> CDone
+    ensures answer { λ r. ⌜ r ≡ doneResult (callOf (now (image .entry)) (removeCall (now (name .entry))) .answer) ⌝ }
+    ensures image { λ _. ⌜ now (image .exit) ≡ callOf (now (image .entry)) (removeCall (now (name .entry))) .state ⌝ }
+{
+    done_result(calls::remove(image, name))
+}

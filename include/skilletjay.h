@@ -1,0 +1,98 @@
+/* Skilletjay: floppy images of Akai S900, S950 and S1000 samplers, read and written by proved code.
+ *
+ * Every function takes any bytes and ends. None keeps a pointer, allocates, or writes to anything but what is lent to it as
+ * not const. Slices are a pointer and a length; a slice of length 0 may be a null pointer. Nothing that is lent to one call
+ * may overlap anything else that is lent to it.
+ *
+ * `refusal` is 0 when the call was done, else the number of the refusal; then `place` is its place and every other field is 0.
+ *
+ *   1 image length            place 0        6 chain leaves the data area    slot
+ *   2 kind not known          place 0        7 chain of the wrong length     slot
+ *   3 system value            block          8 block on two chains           higher slot
+ *   4 malformed slot          slot           9 block used without a file     block
+ *   5 name twice              higher slot   10 no such file, or empty slot   place 0
+ *                                           11 name or type not legal        place 0
+ *                                           12 name already used             its slot
+ *                                           13 content empty                 place 0
+ *                                           14 all slots used                place 0
+ *                                           15 more blocks than are free     place 0
+ *                                           16 content over 16,777,215 bytes place 0
+ *                                           17 offset above the length       place 0
+ *
+ * Every call checks the image first and refuses by 1 to 9 before it looks at its other arguments.
+ */
+#ifndef SKILLETJAY_H
+#define SKILLETJAY_H
+
+#include <stdbool.h>
+#include <stddef.h>
+#include <stdint.h>
+
+#ifdef __cplusplus
+extern "C" {
+#endif
+
+typedef struct {
+    uint32_t refusal;
+    size_t place;
+    uint32_t kind;    /* 900 or 1000 */
+    uint32_t density; /* 0 low, 1 high */
+    size_t files;
+    size_t free; /* free blocks of 1,024 bytes */
+} sj_checked;
+
+typedef struct {
+    uint32_t refusal;
+    size_t place;
+    uint8_t name[12]; /* ASCII; on an S900 disk ten bytes and two zeros */
+    uint8_t type;     /* the type byte, A to Z (S900) or a to z (S1000) */
+    size_t length;    /* the file's bytes */
+} sj_listed;
+
+typedef struct {
+    uint32_t refusal;
+    size_t place;
+    size_t slot;
+} sj_found;
+
+typedef struct {
+    uint32_t refusal;
+    size_t place;
+    size_t count; /* bytes written to the front of the output */
+    bool end;     /* whether the file ends with them */
+} sj_paged;
+
+typedef struct {
+    uint32_t refusal;
+    size_t place;
+} sj_done;
+
+/* Whether an image is accepted: refusals 1 to 9. Reads the length and the first 5,120 bytes. The image is lent and kept. */
+sj_checked sj_check(const uint8_t *image, size_t image_len);
+
+/* What a slot holds, 0 to 63: refusals 1 to 9, then 10 if it is empty or there is no such slot. The image is lent and kept. */
+sj_listed sj_list(const uint8_t *image, size_t image_len, size_t slot);
+
+/* The slot of the file with a name, in ASCII and of its exact length, 10 bytes (S900) or 12 (S1000), padded with spaces: refusals
+ * 1 to 9, then 11, then 10. Image and name are lent and kept. */
+sj_found sj_find(const uint8_t *image, size_t image_len, const uint8_t *name, size_t name_len);
+
+/* The file's bytes from an offset on: as many as the output holds and the file has left are written to the output's front. The
+ * output's other bytes are kept, and all of them on a refusal: 1 to 9, then 10, then 17. At the offset that is the file's length
+ * the count is 0 and the end is reached. The image is lent and kept. */
+sj_paged sj_page(const uint8_t *image, size_t image_len, size_t slot, size_t offset, uint8_t *out, size_t out_len);
+
+/* Puts a file: the lowest empty slot, the lowest free blocks in rising order, zeros after the content in its last block. The name is as for
+ * sj_find, the type A to Z (S900) or a to z (S1000). Refusals 1 to 9, then 11, 13, 12, 14, 15, 16. Name and content are lent and kept;
+ * so is the image on a refusal. On 16: 15 is asked first, so it is never given. */
+sj_found sj_put(uint8_t *image, size_t image_len, const uint8_t *name, size_t name_len, uint8_t type, const uint8_t *content, size_t content_len);
+
+/* Removes the file with a name: its slot becomes zeros but for the identity, its blocks free; data bytes stay. Refusals 1 to 9, then 11, then
+ * 10. The name is lent and kept; so is the image on a refusal. */
+sj_done sj_remove(uint8_t *image, size_t image_len, const uint8_t *name, size_t name_len);
+
+#ifdef __cplusplus
+}
+#endif
+
+#endif

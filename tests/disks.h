@@ -1,0 +1,105 @@
+/* Images made by hand for the tests, and memory that ends at a page that traps. Shares nothing with the library. */
+#ifndef DISKS_H
+#define DISKS_H
+
+#include <stdint.h>
+#include <stdio.h>
+#include <stdlib.h>
+#include <string.h>
+#include <sys/mman.h>
+
+#define CHECK(test)                                                                                                                 \
+    do {                                                                                                                            \
+        if (!(test)) {                                                                                                              \
+            fprintf(stderr, "%s:%d: not so: %s\n", __FILE__, __LINE__, #test);                                                      \
+            exit(1);                                                                                                                \
+        }                                                                                                                           \
+    } while (0)
+
+typedef struct {
+    int kind;   /* 900 or 1000 */
+    int blocks; /* 800 or 1,600 */
+    int first;  /* first data block */
+    int letters;
+    unsigned end; /* end mark */
+} shape;
+
+static const shape SHAPES[4] = {
+    {900, 800, 4, 10, 32768},
+    {900, 1600, 5, 10, 32768},
+    {1000, 800, 4, 12, 19152},
+    {1000, 1600, 5, 12, 19152},
+};
+
+/* n bytes that end at a page which can't be touched. */
+static inline uint8_t *guarded(size_t n) {
+    size_t page = 4096, whole = (n + page - 1) / page * page;
+    uint8_t *at = mmap(NULL, whole + page, PROT_READ | PROT_WRITE, MAP_PRIVATE | MAP_ANONYMOUS, -1, 0);
+    CHECK(at != MAP_FAILED);
+    CHECK(mprotect(at + whole, page, PROT_NONE) == 0);
+    return at + (whole - n);
+}
+
+static inline void release(uint8_t *p, size_t n) {
+    size_t page = 4096, whole = (n + page - 1) / page * page;
+    CHECK(munmap(p + n - whole, whole + page) == 0);
+}
+
+/* A stream of numbers that is the same at every run. */
+static uint64_t seed = 20260701;
+
+static inline uint32_t next_random(void) {
+    seed ^= seed << 13;
+    seed ^= seed >> 7;
+    seed ^= seed << 17;
+    return (uint32_t)(seed >> 16);
+}
+
+static inline void set_value(uint8_t *image, unsigned block, unsigned value) {
+    image[1536 + 2 * block] = (uint8_t)(value & 255);
+    image[1537 + 2 * block] = (uint8_t)(value >> 8);
+}
+
+static inline unsigned get_value(const uint8_t *image, unsigned block) {
+    return image[1536 + 2 * block] + 256u * image[1537 + 2 * block];
+}
+
+/* A disk without files; the data area is noise. */
+static inline void make_blank(uint8_t *image, const shape *s) {
+    size_t n = 1024 * (size_t)s->blocks;
+    memset(image, 0, n);
+    for (size_t i = 1024 * (size_t)s->first; i < n; i++)
+        image[i] = (uint8_t)next_random();
+    if (s->kind == 1000) {
+        for (int slot = 0; slot < 64; slot++)
+            image[24 * slot + 23] = 3;
+        for (int block = 0; block < s->first; block++)
+            set_value(image, (unsigned)block, 16384);
+    }
+}
+
+/* The stored byte of a capital letter or a space. */
+static inline uint8_t stored(const shape *s, char c) {
+    return s->kind == 900 ? (uint8_t)c : c == ' ' ? 10 : (uint8_t)(c - 'A' + 11);
+}
+
+/* Writes an entry and chains the blocks, which hold content and noise after it. */
+static inline void add_file(uint8_t *image, const shape *s, int slot, const char *name, const unsigned *blocks, const uint8_t *content, size_t n) {
+    uint8_t *entry = image + 24 * slot;
+    size_t count = (n + 1023) / 1024, named = strlen(name);
+    for (int i = 0; i < 16; i++)
+        entry[i] = i < s->letters ? stored(s, (size_t)i < named ? name[i] : ' ') : s->kind == 900 ? 0 : 32;
+    entry[16] = s->kind == 900 ? 'S' : 's';
+    entry[17] = (uint8_t)(n & 255);
+    entry[18] = (uint8_t)(n >> 8 & 255);
+    entry[19] = (uint8_t)(n >> 16);
+    entry[20] = (uint8_t)(blocks[0] & 255);
+    entry[21] = (uint8_t)(blocks[0] >> 8);
+    for (size_t k = 0; k < count; k++) {
+        size_t part = n - 1024 * k < 1024 ? n - 1024 * k : 1024;
+        memcpy(image + 1024 * (size_t)blocks[k], content + 1024 * k, part);
+        set_value(image, blocks[k], k + 1 < count ? blocks[k + 1] : s->end);
+    }
+}
+
+#endif
