@@ -1,0 +1,48 @@
+-- `cases::line::end_of` meets its contract: the end lies between where the search began and where the text ends.
+-- The invariant says so of the place reached; the measure is what is left of the text. Assumes nothing.
+use Prim.Native.Nat.{_-_, _≤_}
+use lib.ListN.{length}
+use borrow.Author.Needs.{needs}
+use Rattle.cases.proofs.line.end_of.Statement.{statement}
+use Rattle.cases.proofs.line.end_of.Tie as tie
+
+abbrev Inv-loop : tie.InvT-loop
+Inv-loop text at byte end₀ end = (at ≤ end) × (end ≤ length text)
+
+abbrev μ-loop : tie.MeasureT-loop
+μ-loop text at byte end₀ end = length text - end
+
+loop-holds : tie.Need-loop-holds Inv-loop μ-loop
+loop-holds c = search needs
+
+shared-slice-read-if1 : tie.Need-shared-slice-read-if1 Inv-loop μ-loop
+shared-slice-read-if1 c = search needs
+
+add-end : tie.Need-add-end Inv-loop μ-loop
+add-end c = search needs
+
+loop-less : tie.Need-loop-less Inv-loop μ-loop
+loop-less c = search needs
+
+loop-again : tie.Need-loop-again Inv-loop μ-loop
+loop-again c = search needs
+
+returns : tie.Need-returns Inv-loop μ-loop
+returns c = search needs
+
+returns-2 : tie.Need-returns-2 Inv-loop μ-loop
+returns-2 c = search needs
+
+pub end-of-spec : {M : Type 1} → statement M
+end-of-spec =
+    tie.close
+    (tie.spec
+    Inv-loop
+    μ-loop
+    loop-holds
+    shared-slice-read-if1
+    add-end
+    loop-less
+    loop-again
+    returns
+    returns-2)

@@ -1,0 +1,116 @@
+// The calls' answers as lines.
+ghost use Prim.Native.Nat.{_<_};
+use libc::STDOUT_FILENO;
+
+// A file's line; a name has at most twelve letters.
+fn print_file(letters: usize, letter: u8, size: usize, name: &[u8]) {
+    if letters <= name.len() {
+        listing::print_entry(letter, size, &name[0..letters]);
+    }
+}
+
+// The line of a slot's listing.
+pub fn print_listed(listed: calls::Listed) {
+    let entry = listed.entry;
+    let name = listed.name;
+    match entry {
+        calls::Entry::File {
+            letters,
+            letter,
+            length,
+        } => print_file(letters, letter, length, &name),
+        calls::Entry::Refusal { number, place } => listing::print_refused(number, place),
+        calls::Entry::Unchecked(checked) => listing::print_checked(checked),
+    }
+}
+
+fn print_found(found: calls::Found) {
+    match found {
+        calls::Found::At(slot) => {
+            listing::print_number(b"slot ", slot);
+            listing::print_line_end();
+        }
+        calls::Found::Refusal { number, place } => listing::print_refused(number, place),
+        calls::Found::Unchecked(checked) => listing::print_checked(checked),
+    }
+}
+
+// Finds the name between the brackets at `at` and at the text's end, and prints the answer.
+pub fn find(image: &[u8], text: &[u8], at: usize) {
+    let end = text.len();
+    if at < end {
+        if end - at >= 2 {
+            print_found(calls::find(image, &text[at + 1..end - 1]));
+        }
+    }
+}
+
+fn wide(byte: u8) -> usize
+    ensures { λ r. ⌜ r < 256 ⌝ }
+{
+    byte as usize
+}
+
+// A sum over all of the output: 31 times that of the bytes before, and the byte, modulo 65,521.
+fn sum_of(out: &[u8]) -> usize {
+    let mut sum: usize = 0;
+    let mut i = 0;
+    while i < out.len() {
+        sum = (31 * sum + wide(out[i])) % 65521;
+        i += 1;
+    }
+    sum
+}
+
+// The first four bytes, each after a space.
+fn print_front(out: &[u8]) {
+    let mut i = 0;
+    while i < out.len() {
+        if i == 4 {
+            break;
+        }
+        listing::print_number(b" ", wide(out[i]));
+        i += 1;
+    }
+}
+
+fn print_paged(paged: calls::Paged, out: &[u8]) {
+    match paged {
+        calls::Paged::Page { count, end } => {
+            listing::print_number(b"count ", count);
+            if end {
+                io::write_all(STDOUT_FILENO, b" end");
+            } else {
+                io::write_all(STDOUT_FILENO, b" more");
+            }
+            print_front(out);
+            listing::print_number(b" sum ", sum_of(out));
+            listing::print_line_end();
+        }
+        calls::Paged::Refusal { number, place } => listing::print_refused(number, place),
+        calls::Paged::Unchecked(checked) => listing::print_checked(checked),
+    }
+}
+
+// Pages into all of the output, and prints the answer.
+fn page_to(image: &[u8], slot: usize, offset: usize, out: &mut [u8]) {
+    let paged = calls::page(image, slot, offset, out);
+    print_paged(paged, out);
+}
+
+// Pages into the output's first bytes, as many as asked for.
+fn page_part(image: &[u8], slot: usize, offset: usize, out: &mut [u8], size: usize) {
+    if size <= out.len() {
+        page_to(image, slot, offset, &mut out[0..size]);
+    }
+}
+
+fn page_into(image: &[u8], slot: usize, offset: usize, out: &mut [u8; 4096], size: usize) {
+    page_part(image, slot, offset, out, size);
+}
+
+// Pages into `size` bytes of 238, at most 4,096, and prints the answer.
+pub fn page(image: &[u8], slot: usize, offset: usize, size: usize) {
+    let mut out = [238u8; 4096];
+    page_into(image, slot, offset, &mut out, size);
+}
