@@ -1,0 +1,47 @@
+-- `session::make_find` meets its contract: the reply is that of find's answer, over a part that no page was written to.
+-- By `shown-as`, from what find ensures. Assumes nothing.
+use mathlib.Core.Path.{ap, _∙_}
+use mathlib.Core.List.{List}
+use Prim.Native.Nat.{ℕ, _-_}
+use borrow.Author.Needs.{needs}
+use denote.Ref.{now}
+use Rattle.record.specs.Record.{Outcome}
+use Rattle.laws.specs.Splice.{splice, splice-none}
+use Rattle.rules.specs.Check.{callOf}
+use Rattle.session.specs.Script.{replyOf}
+use Rattle.session.specs.Entries.{shown-as}
+use Rattle.calls.specs.Answers.{findCall}
+use Rattle.session.proofs.make_find.Statement.{statement}
+use Rattle.session.proofs.make_find.Tie as tie
+use Rattle.session.proofs.make_find.Reads as reads
+use Rattle.session.proofs.make_find.Lts as lts
+use Rattle.calls.proofs.find.Reads as find-reads
+use Rattle.session.proofs.found_reply.Reads as found-reply-reads
+use Rattle.session.proofs.write_reply.Reads as write-reply-reads
+
+find-requires : tie.Need-find-requires
+find-requires c κs = search needs
+
+found-reply-requires : tie.Need-found-reply-requires
+found-reply-requires c κs = search needs
+
+write-reply-requires : tie.Need-write-reply-requires
+write-reply-requires c κs = search needs
+
+same-length : tie.Need-same-length
+same-length c = search needs
+
+returns : tie.Need-returns
+returns c =
+    let a = c .before .before .before .before .before .before .before .before .before .args in
+    let e = c .before .before .before .before .before .find .ensures in
+    let o = callOf (now (a .image)) (findCall (now (a .name))) in (
+      shown-as (now (a .shown)) o (c .before .before .before .found-reply .ensures ∙ ap (λ (o : Outcome (List ℕ)). replyOf (o .answer)) e)
+          (splice-none (now (a .shown)) 20 ∙ ap (λ (o : Outcome (List ℕ)). splice (now (a .shown)) 20 (o .output)) e) (c .before .before .write-reply .ensures),
+      ap (λ (o : Outcome (List ℕ)). o .state) e,
+    )
+
+pub make-find-spec : {M : Type 1} → statement M
+make-find-spec =
+    tie.close
+    (tie.spec find-requires found-reply-requires write-reply-requires same-length returns)

@@ -1,0 +1,67 @@
+-- `session::make_page` meets its contract: the page stands after the reply, which is that of page's answer.
+-- By `shown-as`; the lent part comes back as a splice. Assumes nothing.
+use mathlib.Core.Path.{refl, ap, _∙_}
+use mathlib.Core.List.{List}
+use Prim.Native.Nat.{ℕ, _-_}
+use native.Mathlib.Omega.{arith}
+use borrow.Author.Needs.{needs}
+use denote.Ref.{now}
+use Rattle.record.specs.Record.{Outcome}
+use Rattle.laws.specs.Splice.{splice, part, lent-back, length-lent}
+use Rattle.rules.specs.Check.{callOf}
+use Rattle.session.specs.Script.{replyOf}
+use Rattle.session.specs.Entries.{shown-as}
+use Rattle.calls.specs.Answers.{pageCall}
+use Rattle.session.proofs.make_page.Statement.{statement}
+use Rattle.session.proofs.make_page.Tie as tie
+use Rattle.session.proofs.make_page.Reads as reads
+use Rattle.session.proofs.make_page.Lts as lts
+use Rattle.calls.proofs.page.Reads as page-reads
+use Rattle.session.proofs.paged_reply.Reads as paged-reply-reads
+use Rattle.session.proofs.write_reply.Reads as write-reply-reads
+
+sub-page : tie.Need-sub-page
+sub-page c = search needs
+
+part-page-start : tie.Need-part-page-start
+part-page-start c = search needs
+
+part-page-end : tie.Need-part-page-end
+part-page-end c = search needs
+
+page-requires : tie.Need-page-requires
+page-requires c κs = search needs
+
+paged-reply-requires : tie.Need-paged-reply-requires
+paged-reply-requires c κs = search needs
+
+write-reply-requires : tie.Need-write-reply-requires
+write-reply-requires c κs = search needs
+
+same-length : tie.Need-same-length
+same-length c = search needs
+
+returns : tie.Need-returns
+unfolding part
+returns c =
+    let a = c .before .before .before .before .before .before .before .before .before .before .before .args in
+    let s : List ℕ = now (a .shown) in
+    let e = c .before .before .before .before .before .before .before .page .ensures in
+    let o = callOf (now (a .image)) (pageCall (a .slot) (a .offset) (part s 20 1024)) in (
+      shown-as s o (c .before .before .before .paged-reply .ensures ∙ ap (λ (o : Outcome (List ℕ)). replyOf (o .answer)) e)
+          (lent-back s 20 1044 (c .before .before .before .before .before .before .before .page .last .1 .1 .1 .0) (omega arith) (omega arith) (omega (arith, length-lent s 20 1044 (omega arith))) refl ∙ ap (λ (o : Outcome (List ℕ)). splice s 20 (o .output)) e) (c .before .before .write-reply .ensures),
+      ap (λ (o : Outcome (List ℕ)). o .state) e,
+    )
+
+pub make-page-spec : {M : Type 1} → statement M
+make-page-spec =
+    tie.close
+    (tie.spec
+    sub-page
+    part-page-start
+    part-page-end
+    page-requires
+    paged-reply-requires
+    write-reply-requires
+    same-length
+    returns)

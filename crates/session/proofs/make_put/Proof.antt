@@ -1,0 +1,56 @@
+-- `session::make_put` meets its contract: the reply is that of put's answer, and the image is put's.
+-- By `shown-as`, from what put ensures. Assumes nothing.
+use mathlib.Core.Path.{ap, _∙_}
+use mathlib.Core.List.{List}
+use Prim.Native.Nat.{ℕ, _-_}
+use borrow.Author.Needs.{needs}
+use denote.Ref.{now}
+use Rattle.record.specs.Record.{Outcome}
+use Rattle.laws.specs.Splice.{splice, splice-none}
+use Rattle.rules.specs.Check.{callOf}
+use Rattle.session.specs.Script.{replyOf}
+use Rattle.session.specs.Entries.{shown-as}
+use Rattle.calls.specs.Answers.{putCall}
+use Rattle.session.proofs.make_put.Statement.{statement}
+use Rattle.session.proofs.make_put.Tie as tie
+use Rattle.session.proofs.make_put.Reads as reads
+use Rattle.session.proofs.make_put.Lts as lts
+use Rattle.calls.proofs.put.Reads as put-reads
+use Rattle.session.proofs.found_reply.Reads as found-reply-reads
+use Rattle.session.proofs.write_reply.Reads as write-reply-reads
+
+put-requires : tie.Need-put-requires
+put-requires c κs = search needs
+
+found-reply-requires : tie.Need-found-reply-requires
+found-reply-requires c κs = search needs
+
+write-reply-requires : tie.Need-write-reply-requires
+write-reply-requires c κs = search needs
+
+same-length : tie.Need-same-length
+same-length c = search needs
+
+same-length-2 : tie.Need-same-length-2
+same-length-2 c = search needs
+
+returns : tie.Need-returns
+returns c =
+    let a = c .before .before .before .before .before .before .before .before .before .before .before .before .before .args in
+    let e = c .before .before .before .before .before .before .before .put .ensures in
+    let o = callOf (now (a .image)) (putCall (now (a .name)) (a .letter) (now (a .content))) in (
+      shown-as (now (a .shown)) o (c .before .before .before .found-reply .ensures ∙ ap (λ (o : Outcome (List ℕ)). replyOf (o .answer)) e)
+          (splice-none (now (a .shown)) 20 ∙ ap (λ (o : Outcome (List ℕ)). splice (now (a .shown)) 20 (o .output)) e) (c .before .before .write-reply .ensures),
+      ap (λ (o : Outcome (List ℕ)). o .state) e,
+    )
+
+pub make-put-spec : {M : Type 1} → statement M
+make-put-spec =
+    tie.close
+    (tie.spec
+    put-requires
+    found-reply-requires
+    write-reply-requires
+    same-length
+    same-length-2
+    returns)

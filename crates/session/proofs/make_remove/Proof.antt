@@ -1,0 +1,56 @@
+-- `session::make_remove` meets its contract: the reply is that of remove's answer, and the image is remove's.
+-- By `shown-as`, from what remove ensures. Assumes nothing.
+use mathlib.Core.Path.{ap, _∙_}
+use mathlib.Core.List.{List}
+use Prim.Native.Nat.{ℕ, _-_}
+use borrow.Author.Needs.{needs}
+use denote.Ref.{now}
+use Rattle.record.specs.Record.{Outcome}
+use Rattle.laws.specs.Splice.{splice, splice-none}
+use Rattle.rules.specs.Check.{callOf}
+use Rattle.session.specs.Script.{replyOf}
+use Rattle.session.specs.Entries.{shown-as}
+use Rattle.calls.specs.Answers.{removeCall}
+use Rattle.session.proofs.make_remove.Statement.{statement}
+use Rattle.session.proofs.make_remove.Tie as tie
+use Rattle.session.proofs.make_remove.Reads as reads
+use Rattle.session.proofs.make_remove.Lts as lts
+use Rattle.calls.proofs.remove.Reads as remove-reads
+use Rattle.session.proofs.removed_reply.Reads as removed-reply-reads
+use Rattle.session.proofs.write_reply.Reads as write-reply-reads
+
+remove-requires : tie.Need-remove-requires
+remove-requires c κs = search needs
+
+removed-reply-requires : tie.Need-removed-reply-requires
+removed-reply-requires c κs = search needs
+
+write-reply-requires : tie.Need-write-reply-requires
+write-reply-requires c κs = search needs
+
+same-length : tie.Need-same-length
+same-length c = search needs
+
+same-length-2 : tie.Need-same-length-2
+same-length-2 c = search needs
+
+returns : tie.Need-returns
+returns c =
+    let a = c .before .before .before .before .before .before .before .before .before .before .before .before .args in
+    let e = c .before .before .before .before .before .before .before .remove .ensures in
+    let o = callOf (now (a .image)) (removeCall (now (a .name))) in (
+      shown-as (now (a .shown)) o (c .before .before .before .removed-reply .ensures ∙ ap (λ (o : Outcome (List ℕ)). replyOf (o .answer)) e)
+          (splice-none (now (a .shown)) 20 ∙ ap (λ (o : Outcome (List ℕ)). splice (now (a .shown)) 20 (o .output)) e) (c .before .before .write-reply .ensures),
+      ap (λ (o : Outcome (List ℕ)). o .state) e,
+    )
+
+pub make-remove-spec : {M : Type 1} → statement M
+make-remove-spec =
+    tie.close
+    (tie.spec
+    remove-requires
+    removed-reply-requires
+    write-reply-requires
+    same-length
+    same-length-2
+    returns)

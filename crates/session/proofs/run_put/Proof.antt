@@ -1,0 +1,78 @@
+-- `session::run_put` meets its contract: a content that lies in the pool is put, any other is no call.
+-- By the test on the content's place. Assumes nothing.
+use mathlib.Core.Path.{sym, _∙_}
+use Prim.Native.Nat.{_-_}
+use borrow.Author.Needs.{needs}
+use denote.Ref.{now}
+use borrow.Author.Tests.{not-true, not-false}
+use Rattle.session.specs.Entries.{fits-end, made-as, ended-as, put-some, put-none}
+use Rattle.session.proofs.run_put.Statement.{statement}
+use Rattle.session.proofs.run_put.Tie as tie
+use Rattle.session.proofs.run_put.Reads as reads
+use Rattle.session.proofs.run_put.Lts as lts
+use Rattle.blocks.proofs.number4.Reads as number4-reads
+use Rattle.session.proofs.is_in.Reads as is-in-reads
+use Rattle.session.proofs.make_put.Reads as make-put-reads
+
+number4-requires : tie.Need-number4-requires
+number4-requires c κs = search needs
+
+number4-requires-2 : tie.Need-number4-requires-2
+number4-requires-2 c κs = search needs
+
+is-in-requires : tie.Need-is-in-requires
+is-in-requires c κs = search needs
+
+returns : tie.Need-returns
+returns c =
+    ended-as (now (c .before .before .before .before .before .before .before .before .before .args .image)) (now (c .before .before .before .before .before .before .before .before .before .args .shown))
+    (put-none (now (c .before .before .before .before .before .before .before .before .before .args .name)) (now (c .before .before .before .before .before .before .before .before .before .args .entry)) (now (c .before .before .before .before .before .before .before .before .before .args .pool)) (c .before .before .before .number4 .ensures) (c .before .before .number42 .ensures) (sym (c .before .is-in .ensures) ∙ not-true _ (c .if1 .taken)))
+
+add-stop : tie.Need-add-stop
+add-stop c = search needs
+
+shared-slice-read-make-put : tie.Need-shared-slice-read-make-put
+shared-slice-read-make-put c = search needs
+
+sub-make-put : tie.Need-sub-make-put
+sub-make-put c = search needs
+
+part-make-put-start : tie.Need-part-make-put-start
+part-make-put-start c = search needs
+
+part-make-put-end : tie.Need-part-make-put-end
+part-make-put-end c = fits-end _ _ _ (sym (c .before .before .before .is-in .ensures) ∙ not-false _ (c .before .before .if1 .left))
+
+make-put-requires : tie.Need-make-put-requires
+make-put-requires c κs = search needs
+
+same-length : tie.Need-same-length
+same-length c = search needs
+
+same-length-2 : tie.Need-same-length-2
+same-length-2 c = search needs
+
+returns-2 : tie.Need-returns-2
+returns-2 c =
+    let fit = sym (c .before .before .before .before .before .before .before .before .before .before .is-in .ensures) ∙ not-false _ (c .before .before .before .before .before .before .before .before .before .if1 .left) in
+    made-as (now (c .before .before .before .before .before .before .before .before .before .before .before .before .before .before .before .before .before .before .args .image)) (now (c .before .before .before .before .before .before .before .before .before .before .before .before .before .before .before .before .before .before .args .shown))
+    (put-some (now (c .before .before .before .before .before .before .before .before .before .before .before .before .before .before .before .before .before .before .args .name)) (now (c .before .before .before .before .before .before .before .before .before .before .before .before .before .before .before .before .before .before .args .entry)) (now (c .before .before .before .before .before .before .before .before .before .before .before .before .before .before .before .before .before .before .args .pool)) _ _ (c .before .before .before .before .before .before .before .before .before .before .before .before .number4 .ensures) (c .before .before .before .before .before .before .before .before .before .before .before .number42 .ensures) fit)
+    (c .before .before .before .before .make-put .ensures .0) (c .before .before .before .before .make-put .ensures .1)
+
+pub run-put-spec : {M : Type 1} → statement M
+run-put-spec =
+    tie.close
+    (tie.spec
+    number4-requires
+    number4-requires-2
+    is-in-requires
+    returns
+    add-stop
+    shared-slice-read-make-put
+    sub-make-put
+    part-make-put-start
+    part-make-put-end
+    make-put-requires
+    same-length
+    same-length-2
+    returns-2)

@@ -1,0 +1,54 @@
+-- `session::write_reply` meets its contract: five writes that follow one another are one write of the reply's bytes.
+-- By `reply-written`. Assumes nothing.
+use Prim.Native.Nat.{_-_}
+use native.Mathlib.Omega.{arith}
+use borrow.Author.Needs.{needs}
+use denote.Ref.{now}
+use lib.ListN.{length-set}
+use Rattle.session.specs.Entries.{reply-written}
+use Rattle.session.proofs.write_reply.Statement.{statement}
+use Rattle.session.proofs.write_reply.Tie as tie
+use Rattle.session.proofs.write_reply.Reads as reads
+use Rattle.session.proofs.write_reply.Lts as lts
+use Rattle.blocks.proofs.store3.Reads as store3-reads
+use Rattle.session.proofs.flag_of.Reads as flag-of-reads
+use Rattle.session.proofs.write_name.Reads as write-name-reads
+
+store3-requires : tie.Need-store3-requires
+store3-requires c κs = search needs
+
+store3-requires-2 : tie.Need-store3-requires-2
+store3-requires-2 c κs = search needs
+
+slice-write-shown : tie.Need-slice-write-shown
+slice-write-shown c = search needs
+
+flag-of-requires : tie.Need-flag-of-requires
+flag-of-requires c κs = search needs
+
+slice-write-shown-2 : tie.Need-slice-write-shown-2
+slice-write-shown-2 c = simp length-set (omega arith)
+
+write-name-requires : tie.Need-write-name-requires
+write-name-requires c κs = simp length-set (omega arith)
+
+same-length : tie.Need-same-length
+same-length c = omega (arith, simp length-set at (c .before .before .write-name .kept))
+
+returns : tie.Need-returns
+returns c =
+    let a = c .before .before .before .before .before .before .before .before .before .before .before .before .before .before .before .args in
+    reply-written (now (a .shown)) (a .reply) (c .before .before .before .before .before .before .before .before .before .before .before .store3 .ensures) (c .before .before .before .before .before .before .before .store32 .ensures) (c .before .before .before .before .flag-of .ensures) (c .before .before .write-name .ensures)
+
+pub write-reply-spec : {M : Type 1} → statement M
+write-reply-spec =
+    tie.close
+    (tie.spec
+    store3-requires
+    store3-requires-2
+    slice-write-shown
+    flag-of-requires
+    slice-write-shown-2
+    write-name-requires
+    same-length
+    returns)
