@@ -8,9 +8,6 @@ use Rattle.rules.specs.Check.{answerOf}
 use Rattle.session.specs.Script.{replyWith}
 use Rattle.session.proofs.checked_reply.Statement.{statement}
 use Rattle.session.proofs.checked_reply.Tie as tie
-use Rattle.session.proofs.checked_reply.Reads as reads
-use Rattle.session.proofs.checked_reply.Lts as lts
-use Rattle.session.proofs.plain_reply.Reads as plain-reply-reads
 
 enum-told : tie.Need-enum-told
 enum-told c = search needs

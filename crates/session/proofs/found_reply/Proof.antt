@@ -8,10 +8,6 @@ use Rattle.calls.specs.Answers.{foundOf}
 use Rattle.calls.specs.declared.Found.{Found}
 use Rattle.session.proofs.found_reply.Statement.{statement}
 use Rattle.session.proofs.found_reply.Tie as tie
-use Rattle.session.proofs.found_reply.Reads as reads
-use Rattle.session.proofs.found_reply.Lts as lts
-use Rattle.session.proofs.checked_reply.Reads as checked-reply-reads
-use Rattle.session.proofs.plain_reply.Reads as plain-reply-reads
 
 enum-known-found : tie.Need-enum-known-found
 enum-known-found c = search needs

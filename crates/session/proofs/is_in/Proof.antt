@@ -6,8 +6,6 @@ use native.Mathlib.Omega.{arith}
 use borrow.Author.Tests.{le-leb, lt-leb}
 use Rattle.session.proofs.is_in.Statement.{statement}
 use Rattle.session.proofs.is_in.Tie as tie
-use Rattle.session.proofs.is_in.Reads as reads
-use Rattle.session.proofs.is_in.Lts as lts
 
 returns : tie.Need-returns
 returns c = rw (lt-leb (c .before .args .at) (c .before .args .size) (omega arith)) refl

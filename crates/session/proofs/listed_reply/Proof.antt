@@ -8,10 +8,6 @@ use Rattle.calls.specs.Answers.{entryOf}
 use Rattle.calls.specs.declared.Entry.{Entry}
 use Rattle.session.proofs.listed_reply.Statement.{statement}
 use Rattle.session.proofs.listed_reply.Tie as tie
-use Rattle.session.proofs.listed_reply.Reads as reads
-use Rattle.session.proofs.listed_reply.Lts as lts
-use Rattle.session.proofs.checked_reply.Reads as checked-reply-reads
-use Rattle.session.proofs.plain_reply.Reads as plain-reply-reads
 
 enum-known-entry : tie.Need-enum-known-entry
 enum-known-entry c = search needs

@@ -13,11 +13,6 @@ use Rattle.session.specs.Entries.{shown-as}
 use Rattle.calls.specs.Answers.{findCall}
 use Rattle.session.proofs.make_find.Statement.{statement}
 use Rattle.session.proofs.make_find.Tie as tie
-use Rattle.session.proofs.make_find.Reads as reads
-use Rattle.session.proofs.make_find.Lts as lts
-use Rattle.calls.proofs.find.Reads as find-reads
-use Rattle.session.proofs.found_reply.Reads as found-reply-reads
-use Rattle.session.proofs.write_reply.Reads as write-reply-reads
 
 find-requires : tie.Need-find-requires
 find-requires c κs = search needs

@@ -12,11 +12,6 @@ use Rattle.session.specs.Entries.{shown-as, list-reply}
 use Rattle.calls.specs.Answers.{listCall}
 use Rattle.session.proofs.make_list.Statement.{statement}
 use Rattle.session.proofs.make_list.Tie as tie
-use Rattle.session.proofs.make_list.Reads as reads
-use Rattle.session.proofs.make_list.Lts as lts
-use Rattle.calls.proofs.list.Reads as list-reads
-use Rattle.session.proofs.listed_reply.Reads as listed-reply-reads
-use Rattle.session.proofs.write_reply.Reads as write-reply-reads
 
 list-requires : tie.Need-list-requires
 list-requires c κs = search needs

@@ -14,11 +14,6 @@ use Rattle.session.specs.Entries.{shown-as}
 use Rattle.calls.specs.Answers.{pageCall}
 use Rattle.session.proofs.make_page.Statement.{statement}
 use Rattle.session.proofs.make_page.Tie as tie
-use Rattle.session.proofs.make_page.Reads as reads
-use Rattle.session.proofs.make_page.Lts as lts
-use Rattle.calls.proofs.page.Reads as page-reads
-use Rattle.session.proofs.paged_reply.Reads as paged-reply-reads
-use Rattle.session.proofs.write_reply.Reads as write-reply-reads
 
 sub-page : tie.Need-sub-page
 sub-page c = search needs

@@ -13,11 +13,6 @@ use Rattle.session.specs.Entries.{shown-as}
 use Rattle.calls.specs.Answers.{putCall}
 use Rattle.session.proofs.make_put.Statement.{statement}
 use Rattle.session.proofs.make_put.Tie as tie
-use Rattle.session.proofs.make_put.Reads as reads
-use Rattle.session.proofs.make_put.Lts as lts
-use Rattle.calls.proofs.put.Reads as put-reads
-use Rattle.session.proofs.found_reply.Reads as found-reply-reads
-use Rattle.session.proofs.write_reply.Reads as write-reply-reads
 
 put-requires : tie.Need-put-requires
 put-requires c κs = search needs

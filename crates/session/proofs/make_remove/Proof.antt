@@ -13,11 +13,6 @@ use Rattle.session.specs.Entries.{shown-as}
 use Rattle.calls.specs.Answers.{removeCall}
 use Rattle.session.proofs.make_remove.Statement.{statement}
 use Rattle.session.proofs.make_remove.Tie as tie
-use Rattle.session.proofs.make_remove.Reads as reads
-use Rattle.session.proofs.make_remove.Lts as lts
-use Rattle.calls.proofs.remove.Reads as remove-reads
-use Rattle.session.proofs.removed_reply.Reads as removed-reply-reads
-use Rattle.session.proofs.write_reply.Reads as write-reply-reads
 
 remove-requires : tie.Need-remove-requires
 remove-requires c κs = search needs

@@ -8,10 +8,6 @@ use Rattle.calls.specs.Answers.{pagedOf}
 use Rattle.calls.specs.declared.Paged.{Paged}
 use Rattle.session.proofs.paged_reply.Statement.{statement}
 use Rattle.session.proofs.paged_reply.Tie as tie
-use Rattle.session.proofs.paged_reply.Reads as reads
-use Rattle.session.proofs.paged_reply.Lts as lts
-use Rattle.session.proofs.checked_reply.Reads as checked-reply-reads
-use Rattle.session.proofs.plain_reply.Reads as plain-reply-reads
 
 enum-known-paged : tie.Need-enum-known-paged
 enum-known-paged c = search needs

@@ -8,10 +8,6 @@ use Rattle.calls.specs.Answers.{removedOf}
 use Rattle.calls.specs.declared.Removed.{Removed}
 use Rattle.session.proofs.removed_reply.Statement.{statement}
 use Rattle.session.proofs.removed_reply.Tie as tie
-use Rattle.session.proofs.removed_reply.Reads as reads
-use Rattle.session.proofs.removed_reply.Lts as lts
-use Rattle.session.proofs.checked_reply.Reads as checked-reply-reads
-use Rattle.session.proofs.plain_reply.Reads as plain-reply-reads
 
 enum-told : tie.Need-enum-told
 enum-told c = search needs

@@ -16,10 +16,6 @@ use Rattle.session.specs.Script.{afterRun}
 use Rattle.session.specs.Entries.{part-fits}
 use Rattle.session.proofs.run.Statement.{statement}
 use Rattle.session.proofs.run.Tie as tie
-use Rattle.session.proofs.run.Reads as reads
-use Rattle.session.proofs.run.Lts as lts
-use Rattle.blocks.proofs.least.Reads as least-reads
-use Rattle.session.proofs.run_entry.Reads as run-entry-reads
 
 abbrev Inv-loop : tie.InvT-loop
 Inv-loop image₀ script pool out₀ n k₀ image out k =

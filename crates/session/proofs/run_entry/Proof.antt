@@ -12,13 +12,6 @@ use borrow.Author.Tests.{not-true, not-false}
 use Rattle.session.specs.Entries.{made-as, ended-as, fits-end, entry-list, entry-page, entry-none, entry-named}
 use Rattle.session.proofs.run_entry.Statement.{statement}
 use Rattle.session.proofs.run_entry.Tie as tie
-use Rattle.session.proofs.run_entry.Reads as reads
-use Rattle.session.proofs.run_entry.Lts as lts
-use Rattle.blocks.proofs.number4.Reads as number4-reads
-use Rattle.session.proofs.is_in.Reads as is-in-reads
-use Rattle.session.proofs.make_list.Reads as make-list-reads
-use Rattle.session.proofs.make_page.Reads as make-page-reads
-use Rattle.session.proofs.run_named.Reads as run-named-reads
 
 shared-slice-read-op : tie.Need-shared-slice-read-op
 shared-slice-read-op c = search needs

@@ -10,11 +10,6 @@ use denote.Ref.{now}
 use Rattle.session.specs.Entries.{made-as, ended-as, named-find, named-remove, named-put, named-none}
 use Rattle.session.proofs.run_named.Statement.{statement}
 use Rattle.session.proofs.run_named.Tie as tie
-use Rattle.session.proofs.run_named.Reads as reads
-use Rattle.session.proofs.run_named.Lts as lts
-use Rattle.session.proofs.make_find.Reads as make-find-reads
-use Rattle.session.proofs.make_remove.Reads as make-remove-reads
-use Rattle.session.proofs.run_put.Reads as run-put-reads
 
 shared-slice-read-op : tie.Need-shared-slice-read-op
 shared-slice-read-op c = search needs

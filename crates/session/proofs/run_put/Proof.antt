@@ -8,11 +8,6 @@ use borrow.Author.Tests.{not-true, not-false}
 use Rattle.session.specs.Entries.{fits-end, made-as, ended-as, put-some, put-none}
 use Rattle.session.proofs.run_put.Statement.{statement}
 use Rattle.session.proofs.run_put.Tie as tie
-use Rattle.session.proofs.run_put.Reads as reads
-use Rattle.session.proofs.run_put.Lts as lts
-use Rattle.blocks.proofs.number4.Reads as number4-reads
-use Rattle.session.proofs.is_in.Reads as is-in-reads
-use Rattle.session.proofs.make_put.Reads as make-put-reads
 
 number4-requires : tie.Need-number4-requires
 number4-requires c κs = search needs

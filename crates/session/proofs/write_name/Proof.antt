@@ -9,9 +9,6 @@ use lib.Seq.{take-all}
 use Rattle.laws.specs.Splice.{splice, part}
 use Rattle.session.proofs.write_name.Statement.{statement}
 use Rattle.session.proofs.write_name.Tie as tie
-use Rattle.session.proofs.write_name.Reads as reads
-use Rattle.session.proofs.write_name.Lts as lts
-use Rattle.blocks.proofs.copy_part.Reads as copy-part-reads
 
 slice-aggregate-copy-part : tie.Need-slice-aggregate-copy-part
 slice-aggregate-copy-part c = search needs

@@ -8,11 +8,6 @@ use lib.ListN.{length-set}
 use Rattle.session.specs.Entries.{reply-written}
 use Rattle.session.proofs.write_reply.Statement.{statement}
 use Rattle.session.proofs.write_reply.Tie as tie
-use Rattle.session.proofs.write_reply.Reads as reads
-use Rattle.session.proofs.write_reply.Lts as lts
-use Rattle.blocks.proofs.store3.Reads as store3-reads
-use Rattle.session.proofs.flag_of.Reads as flag-of-reads
-use Rattle.session.proofs.write_name.Reads as write-name-reads
 
 store3-requires : tie.Need-store3-requires
 store3-requires c κs = search needs
