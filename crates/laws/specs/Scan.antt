@@ -3,7 +3,7 @@
 use mathlib.Core.Path.{_≡_, refl, sym, ap, _∙_}
 use mathlib.Core.Bool.{Bool, true, false, not, true≢false}
 use Prim.Native.Nat.{ℕ, zero, suc, _+_, _-_, _≤_, _<_}
-use native.Mathlib.Decide.{ℕ-discrete}
+use native.Mathlib.Decide.{ℕ-discrete, decLt}
 use native.Mathlib.Nat.{add-zero, add-suc, suc-add}
 use native.Mathlib.Numerals.{add-one}
 use native.Mathlib.Omega.{arith}
@@ -227,3 +227,13 @@ pub total-snoc : (f : ℕ → ℕ) (i n : ℕ) → total f i (suc n) ≡ total f
 unfolding total
 total-snoc f i zero = rw (add-zero i) (omega arith)
 total-snoc f i (suc n) = rw (add-suc i n, ← suc-add i n) (omega (arith, total-snoc f (suc i) n))
+
+-- each of the numbers is at most the sum
+pub total-has : (f : ℕ → ℕ) (i n k : ℕ) → i ≤ k → k < i + n → f k ≤ total f i n
+unfolding total
+total-has f i zero k h p = absurd (omega arith)
+total-has f i (suc n) k h p = go (decLt i k) (total-has f (suc i) n k)
+  where
+    go : Dec (i < k) → (suc i ≤ k → k < suc i + n → f k ≤ total f (suc i) n) → f k ≤ total f i (suc n)
+    go (yes q) ih = omega (arith, ih (omega arith) (omega arith))
+    go (no q) ih = let e : k ≡ i = omega arith in rw e (omega arith)

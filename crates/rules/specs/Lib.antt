@@ -3,3 +3,4 @@ pub mod Accepted
 pub mod Head
 pub mod Demand
 pub mod Refused
+pub mod Small
