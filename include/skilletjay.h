@@ -91,6 +91,21 @@ sj_found sj_put(uint8_t *image, size_t image_len, const uint8_t *name, size_t na
  * 10. The name is lent and kept; so is the image on a refusal. */
 sj_done sj_remove(uint8_t *image, size_t image_len, const uint8_t *name, size_t name_len);
 
+/* Makes the calls of a script one after another on one image, and gives how many were made. It ends at the script's end, before the first entry
+ * that is no call, or where the output has no part left. Each entry is 20 bytes, numbers least significant byte first:
+ *
+ *   byte 0   0 list, 1 page, 2 find, 3 remove, 4 put; more is no call
+ *   byte 1   put: the type
+ *   4 to 7   list, page: the slot; the others: the name's offset in the pool
+ *   8 to 11  page: the offset; find, remove, put: the name's length
+ *   12 to 15 put: the content's offset in the pool; 16 to 19 its length (a name or content outside the pool is no call)
+ *
+ * The k-th call writes to the k-th part of the output, 1,044 bytes: refusal or 0 (3 bytes); its place, or the call's length, count or slot (3
+ * bytes); type; 1 if the file's end is reached; name (12 bytes); then a page of up to 1,024 bytes. All else of the output is kept. Script and
+ * pool are lent and kept; a refused call keeps the image, and the script goes on. */
+size_t sj_run(uint8_t *image, size_t image_len, const uint8_t *script, size_t script_len, const uint8_t *pool, size_t pool_len, uint8_t *out,
+              size_t out_len);
+
 #ifdef __cplusplus
 }
 #endif

@@ -4,6 +4,7 @@ ghost use Prim.Native.Nat.{_%_};
 ghost use Rattle.record.specs.Record.{check};
 ghost use Rattle.rules.specs.Check.{answerOf, callOf};
 ghost use Rattle.calls.specs.Answers.{foundOf, pagedOf, listedOf, removedOf, listCall, findCall, pageCall, putCall, removeCall};
+ghost use Rattle.session.specs.Script.{afterRun, runOf};
 ghost use Rattle.skilletjay.specs.Results.{kindNumber, densityNumber, checkedResult, listedRefusal, listedWith, listedResult, foundRefusal, foundResult, pagedRefusal, pagedResult, doneResult};
 ghost use Rattle.skilletjay.specs.Narrow.{narrow};
 
@@ -304,4 +305,13 @@ pub extern "C" fn sj_remove(image: &mut [u8], name: &[u8]) -> CDone
     ensures image { λ _. ⌜ now (image .exit) ≡ callOf (now (image .entry)) (removeCall (now (name .entry))) .state ⌝ }
 {
     done_result(calls::remove(image, name))
+}
+
+// Makes the calls of a script one after another, and gives how many were made. Script and pool are lent and kept; each call's reply and page
+// are written to its own part of the output.
+#[no_mangle]
+pub extern "C" fn sj_run(image: &mut [u8], script: &[u8], pool: &[u8], out: &mut [u8]) -> usize
+    ensures { λ r. ⌜ afterRun r (now (out .exit)) (now (image .exit)) ≡ runOf (now (image .entry)) (now (script .entry)) (now (pool .entry)) (now (out .entry)) ⌝ }
+{
+    session::run(image, script, pool, out)
 }

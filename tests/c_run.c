@@ -1,0 +1,112 @@
+/* Scripts of calls from C: each reply, each page and the image are what the same calls give when they are made one by one; a script ends
+ * before the first entry that is no call. */
+#include "disks.h"
+#include "skilletjay.h"
+
+enum { ENTRY = 20, PART = 1044, PAGE = 1024, CALLS = 40, POOL = 70000 };
+
+static uint8_t script[ENTRY * CALLS + 19], pool[POOL], out[PART * CALLS + 7], want[sizeof out];
+
+static void set_number(uint8_t *at, int width, size_t value) {
+    for (int i = 0; i < width; i++)
+        at[i] = (uint8_t)(value >> 8 * i);
+}
+
+static size_t get_number(const uint8_t *at) { return at[0] + 256u * at[1] + 65536u * at[2] + 16777216u * (size_t)at[3]; }
+
+/* The pool begins with 26 names of 12 letters, any ten of which are an S900 name. */
+static void make_pool(void) {
+    for (int i = 0; i < 26 * 12; i++)
+        pool[i] = i % 12 ? ' ' : (uint8_t)('A' + i / 12);
+    for (int i = 26 * 12; i < POOL; i++)
+        pool[i] = (uint8_t)next_random();
+}
+
+static void make_entry(const shape *s, uint8_t *e) {
+    uint32_t r = next_random();
+    for (int i = 0; i < ENTRY; i++)
+        e[i] = (uint8_t)next_random();
+    e[0] = r % 97 == 0 ? (uint8_t)(5 + r % 251) : (uint8_t)(r % 5);
+    e[1] = (uint8_t)((s->kind == 900 ? 'A' : 'a') + next_random() % 27);
+    if (e[0] < 2) {
+        set_number(e + 4, 4, next_random() % 8);
+        set_number(e + 8, 4, next_random() % 3 ? 0 : next_random() % 4000);
+        return;
+    }
+    set_number(e + 4, 4, 12 * (next_random() % 26));
+    set_number(e + 8, 4, (size_t)s->letters - (next_random() % 30 == 0));
+    if (next_random() % 60 == 0)
+        set_number(e + 8, 4, POOL);
+    if (e[0] == 4) {
+        size_t at = next_random() % POOL, most = POOL - at;
+        set_number(e + 12, 4, at);
+        set_number(e + 16, 4, next_random() % 60 ? next_random() % (most + 1) : most + 1);
+    }
+}
+
+static void reply(uint8_t *part, size_t number, size_t value, uint8_t type, bool end, const uint8_t *name) {
+    set_number(part, 3, number);
+    set_number(part + 3, 3, value);
+    part[6] = type;
+    part[7] = end;
+    for (int i = 0; i < 12; i++)
+        part[8 + i] = name ? name[i] : 0;
+}
+
+static bool in_pool(size_t at, size_t n) { return at <= POOL && n <= POOL - at; }
+
+/* The call that an entry is, made by itself; false if it is none. */
+static bool make_call(uint8_t *image, size_t n, const uint8_t *e, uint8_t *part) {
+    size_t a = get_number(e + 4), b = get_number(e + 8), c = get_number(e + 12), d = get_number(e + 16);
+    if (e[0] > 4 || (e[0] >= 2 && !in_pool(a, b)) || (e[0] == 4 && !in_pool(c, d)))
+        return false;
+    if (e[0] == 0) {
+        sj_listed l = sj_list(image, n, a);
+        reply(part, l.refusal, l.refusal ? l.place : l.length, l.type, false, l.name);
+    } else if (e[0] == 1) {
+        sj_paged p = sj_page(image, n, a, b, part + ENTRY, PAGE);
+        reply(part, p.refusal, p.refusal ? p.place : p.count, 0, p.end, NULL);
+    } else if (e[0] == 3) {
+        sj_done r = sj_remove(image, n, pool + a, b);
+        reply(part, r.refusal, r.place, 0, false, NULL);
+    } else {
+        sj_found f = e[0] == 2 ? sj_find(image, n, pool + a, b) : sj_put(image, n, pool + a, b, e[1], pool + c, d);
+        reply(part, f.refusal, f.refusal ? f.place : f.slot, 0, false, NULL);
+    }
+    return true;
+}
+
+static void run_one(const shape *s, uint8_t *image, uint8_t *other, size_t n) {
+    size_t script_len = next_random() % (sizeof script + 1), out_len = next_random() % 4 ? sizeof out : next_random() % (sizeof out + 1);
+    for (int k = 0; k < CALLS; k++)
+        make_entry(s, script + ENTRY * k);
+    for (size_t i = 0; i < sizeof out; i++)
+        out[i] = want[i] = (uint8_t)next_random();
+    memcpy(other, image, n);
+    size_t most = script_len / ENTRY < out_len / PART ? script_len / ENTRY : out_len / PART, made = 0;
+    while (made < most && make_call(other, n, script + ENTRY * made, want + PART * made))
+        made++;
+    CHECK(sj_run(image, n, script, script_len, pool, POOL, out, out_len) == made);
+    CHECK(memcmp(out, want, sizeof out) == 0 && memcmp(image, other, n) == 0);
+}
+
+int main(void) {
+    make_pool();
+    for (int k = 0; k < 4; k++) {
+        const shape *s = &SHAPES[k];
+        size_t n = 1024 * (size_t)s->blocks;
+        uint8_t *image = guarded(n), *other = malloc(n);
+        CHECK(other);
+        make_blank(image, s);
+        for (int i = 0; i < 150; i++)
+            run_one(s, image, other, n);
+        CHECK(sj_check(image, n).refusal == 0);
+        image[0] ^= 1, image[22] ^= 1; /* a refused image: every call of a script is refused */
+        run_one(s, image, other, n);
+        free(other);
+        release(image, n);
+    }
+    CHECK(sj_run(NULL, 0, NULL, 0, NULL, 0, NULL, 0) == 0);
+    puts("c_run: ok");
+    return 0;
+}
