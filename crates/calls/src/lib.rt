@@ -5,7 +5,7 @@ ghost use Prim.Native.Nat.{ℕ, _≤_};
 ghost use lib.ListN.{length};
 ghost use Rattle.laws.specs.Reader.{bytes};
 ghost use Rattle.map.specs.Map.{mapAt, freeCount};
-ghost use Rattle.calls.specs.Putting.{roomFor};
+ghost use Rattle.record.specs.Order.{roomFor};
 ghost use Rattle.layout.specs.Right.{LayoutRight};
 ghost use Rattle.image.specs.Image.{filesIn, DiskRules};
 ghost use Rattle.record.specs.Record.{slotOf, fileAt, judgeName, judgePut, listing, paging};

@@ -47,6 +47,10 @@ within-above low high v h = false-both (leb low v) (leb v high) (λ e. lt-leb v 
 pub clash : {b : Bool} → b ≡ true → b ≡ false → ⊥
 clash p q = true≢false (sym p ∙ q)
 
+pub true-if : (b : Bool) → (b ≡ false → ⊥) → b ≡ true
+true-if true h = refl
+true-if false h = absurd (h refl)
+
 pub false-if : (b : Bool) → (b ≡ true → ⊥) → b ≡ false
 false-if true h = absurd (h refl)
 false-if false h = refl

@@ -1,4 +1,5 @@
 pub mod Record
+pub mod Order
 pub mod Granted
 pub mod Update
 pub mod Step

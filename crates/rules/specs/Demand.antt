@@ -31,6 +31,7 @@ use Rattle.image.specs.Image.{filesIn, DiskRules}
 use Rattle.record.specs.Record.{shapeOf, Files, Call, check, page, put, remove, Outcome, accepted, refused, refuseIf, named, isEmpty, slotOf, emptySlot, free, judgePut, putting, stepFiles}
 use Rattle.record.specs.declared.Judged.{Judged}
 use Rattle.record.specs.declared.Judged.the-variants.{Refuse, Grant}
+use Rattle.record.specs.Order.{roomFor, order-room}
 use Rattle.record.specs.Update.{area-split, free-is}
 use Rattle.record.specs.Step.{imageAfter, stepImage, step}
 use Rattle.record.specs.Others as record-others
@@ -162,12 +163,10 @@ module _ (k : Kind) (d : Density) (f n : ℕ) (img : List ℕ) (yes : checkOf im
 
   -- such a put is judged by its room and its length
   judged : legalType l type ≡ true → legalName l name ≡ true → slotOf l files name ≡ Nowhere → (length content ≡ 0 → ⊥) → (s : ℕ) → emptySlot l files ≡ At s
-      → judgePut l files name type content ≡ refuseIf (ltb n (blocksFor (length content))) 15 (refuseIf (ltb 16777215 (length content)) 16 (Grant s))
-  unfolding judgePut
+      → judgePut l files name type content ≡ roomFor n (length content) s
   judged type-legal name-legal new some-content s slot =
-      let fr : free l files ≡ n =
-      free-is l (layout-right k d) img (accepted-rules k d f n img yes) ∙ sym (accepted-counts k d f n img yes .1) in
-      rw (name-legal, type-legal, ne-eqb (length content) 0 some-content, new, slot, fr) refl
+      order-room l files name type content name-legal type-legal some-content new slot
+      ∙ ap (λ (b : ℕ). roomFor b (length content) s) (free-is l (layout-right k d) img (accepted-rules k d f n img yes) ∙ sym (accepted-counts k d f n img yes .1))
 
   put-answer : (j : Judged) → judgePut l files name type content ≡ j → callOf img (put name type content) .answer ≡ putting img (λ s. img) j .answer
   unfolding stepImage stepFiles
@@ -182,7 +181,7 @@ module _ (k : Kind) (d : Density) (f n : ℕ) (img : List ℕ) (yes : checkOf im
       let slot = some-slot s inside empty in
       let t = ltb n (blocksFor (length content)) in
       let u = ltb 16777215 (length content) in
-      let a = put-answer (refuseIf t 15 (refuseIf u 16 (Grant (slot .0)))) (judged type-legal name-legal (no-slot new) some-content (slot .0) (slot .1)) in
+      let a = put-answer (roomFor n (length content) (slot .0)) (judged type-legal name-legal (no-slot new) some-content (slot .0) (slot .1)) in
       let w = only-room img t u (slot .0) in
       (λ e. ltb-true n (blocksFor (length content)) (w .0 (sym a ∙ e)), λ h. a ∙ w .1 (lt-ltb n (blocksFor (length content)) h))
 
