@@ -8,12 +8,13 @@ use Rattle.layout.specs.declared.Kind.{Kind}
 use Rattle.layout.specs.declared.Density.{Density}
 use Rattle.record.specs.Record.{Call, check, Answer, accepted, entry, slotIs, paged, done, refused, Outcome}
 use Rattle.rules.specs.declared.Checked.{Checked}
-use Rattle.rules.specs.declared.Checked.the-variants.{Accepted}
+use Rattle.rules.specs.declared.Checked.the-variants.{Accepted, Refused}
 use Rattle.rules.specs.Check.{checkOf, answerOf, callOf}
 use Rattle.rules.specs.Demand.{check-call}
 use Rattle.rules.specs.Small.{AllSmall, call-small}
 use Rattle.calls.specs.Answers.{came}
-use Rattle.skilletjay.specs.Results.{kindNumber, densityNumber, checkedResult}
+use Rattle.skilletjay.specs.Results.{kindNumber, densityNumber, checkedResult, listedRefusal, listedWith, foundRefusal, foundResult, pagedRefusal, pagedResult, doneResult}
+use Rattle.skilletjay.specs.declared.CDone.{CDone}
 
 -- An answer with its number cut to 32 bits.
 abbrev pub narrow : Answer → Answer
@@ -48,3 +49,16 @@ checked-narrow img e = ap (λ (w : Checked). narrow (answerOf w)) e ∙ ap narro
 pub accepted-narrow : {w : Checked} {k : Kind} {d : Density} {f n x y : ℕ} → w ≡ Accepted k d f n → x ≡ kindNumber k → y ≡ densityNumber d
     → record { refusal = 0; place = 0; kind = x; density = y; files = f; free = n } ≡ checkedResult (narrow (answerOf w))
 accepted-narrow e p q = rw (e, p, q) refl
+
+-- A call that the check refused: its result has the check's refusal and place.
+pub listed-unchecked : (w : Checked) (name : List ℕ) {d : CDone} → d ≡ doneResult (narrow (answerOf w)) → listedRefusal (d .refusal) (d .place) ≡ listedWith (narrow (answerOf w)) name
+listed-unchecked (Accepted k d f n) name e = rw e refl
+listed-unchecked (Refused n p) name e = rw e refl
+
+pub found-unchecked : (w : Checked) {d : CDone} → d ≡ doneResult (narrow (answerOf w)) → foundRefusal (d .refusal) (d .place) ≡ foundResult (narrow (answerOf w))
+found-unchecked (Accepted k d f n) e = rw e refl
+found-unchecked (Refused n p) e = rw e refl
+
+pub paged-unchecked : (w : Checked) {d : CDone} → d ≡ doneResult (narrow (answerOf w)) → pagedRefusal (d .refusal) (d .place) ≡ pagedResult (narrow (answerOf w))
+paged-unchecked (Accepted k d f n) e = rw e refl
+paged-unchecked (Refused n p) e = rw e refl

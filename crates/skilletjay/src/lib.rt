@@ -109,6 +109,27 @@ fn checked_result(checked: rules::Checked) -> CChecked
     }
 }
 
+// The check's refusal alone, for the results of calls that it refused.
+fn checked_done(checked: rules::Checked) -> CDone
+    ensures { λ r. ⌜ r ≡ doneResult (narrow (answerOf checked)) ⌝ }
+{
+    match checked {
+        rules::Checked::Accepted {
+            kind: _,
+            density: _,
+            files: _,
+            free: _,
+        } => CDone {
+            refusal: 0,
+            place: 0,
+        },
+        rules::Checked::Refused { number, place } => CDone {
+            refusal: number_of(number),
+            place,
+        },
+    }
+}
+
 // A list's result without a file: a refusal's number and place, all else 0.
 fn listed_refusal(refusal: u32, place: usize) -> CListed
     ensures { λ r. ⌜ r ≡ listedRefusal refusal place ⌝ }
@@ -141,15 +162,10 @@ fn listed_result(listed: calls::Listed) -> CListed
             length,
         },
         calls::Entry::Refusal { number, place } => listed_refusal(number_of(number), place),
-        calls::Entry::Unchecked(checked) => match checked {
-            rules::Checked::Accepted {
-                kind: _,
-                density: _,
-                files: _,
-                free: _,
-            } => listed_refusal(0, 0),
-            rules::Checked::Refused { number, place } => listed_refusal(number_of(number), place),
-        },
+        calls::Entry::Unchecked(checked) => {
+            let done = checked_done(checked);
+            listed_refusal(done.refusal, done.place)
+        }
     }
 }
 
@@ -175,15 +191,10 @@ fn found_result(found: calls::Found) -> CFound
             slot,
         },
         calls::Found::Refusal { number, place } => found_refusal(number_of(number), place),
-        calls::Found::Unchecked(checked) => match checked {
-            rules::Checked::Accepted {
-                kind: _,
-                density: _,
-                files: _,
-                free: _,
-            } => found_refusal(0, 0),
-            rules::Checked::Refused { number, place } => found_refusal(number_of(number), place),
-        },
+        calls::Found::Unchecked(checked) => {
+            let done = checked_done(checked);
+            found_refusal(done.refusal, done.place)
+        }
     }
 }
 
@@ -211,15 +222,10 @@ fn paged_result(paged: calls::Paged) -> CPaged
             end,
         },
         calls::Paged::Refusal { number, place } => paged_refusal(number_of(number), place),
-        calls::Paged::Unchecked(checked) => match checked {
-            rules::Checked::Accepted {
-                kind: _,
-                density: _,
-                files: _,
-                free: _,
-            } => paged_refusal(0, 0),
-            rules::Checked::Refused { number, place } => paged_refusal(number_of(number), place),
-        },
+        calls::Paged::Unchecked(checked) => {
+            let done = checked_done(checked);
+            paged_refusal(done.refusal, done.place)
+        }
     }
 }
 
@@ -236,21 +242,7 @@ fn done_result(removed: calls::Removed) -> CDone
             refusal: number_of(number),
             place,
         },
-        calls::Removed::Unchecked(checked) => match checked {
-            rules::Checked::Accepted {
-                kind: _,
-                density: _,
-                files: _,
-                free: _,
-            } => CDone {
-                refusal: 0,
-                place: 0,
-            },
-            rules::Checked::Refused { number, place } => CDone {
-                refusal: number_of(number),
-                place,
-            },
-        },
+        calls::Removed::Unchecked(checked) => checked_done(checked),
     }
 }
 

@@ -1,5 +1,5 @@
 -- `skilletjay::done_result` meets its contract: every field of what C gets is the answer's, its number cut to 32 bits.
--- By cases on the answer, and on the check's where the call made no own. Assumes nothing.
+-- By cases on the answer; where the check refused, the result has the check's refusal. Assumes nothing.
 use borrow.Author.Needs.{needs}
 use Rattle.skilletjay.proofs.done_result.Statement.{statement}
 use Rattle.skilletjay.proofs.done_result.Tie as tie
@@ -16,14 +16,8 @@ number-of-requires c κs = search needs
 enum-known-removed-2 : tie.Need-enum-known-removed-2
 enum-known-removed-2 c = search needs
 
-enum-told-2 : tie.Need-enum-told-2
-enum-told-2 c = search needs
-
-enum-known-checked : tie.Need-enum-known-checked
-enum-known-checked c = search needs
-
-number-of-requires-2 : tie.Need-number-of-requires-2
-number-of-requires-2 c κs = search needs
+checked-done-requires : tie.Need-checked-done-requires
+checked-done-requires c κs = search needs
 
 returns : tie.Need-returns
 returns c = cc
@@ -34,9 +28,6 @@ returns-2 c = cc
 returns-3 : tie.Need-returns-3
 returns-3 c = cc
 
-returns-4 : tie.Need-returns-4
-returns-4 c = cc
-
 pub done-result-spec : {M : Type 1} → statement M
 done-result-spec =
     tie.close
@@ -45,10 +36,7 @@ done-result-spec =
     enum-known-removed
     number-of-requires
     enum-known-removed-2
-    enum-told-2
-    enum-known-checked
-    number-of-requires-2
+    checked-done-requires
     returns
     returns-2
-    returns-3
-    returns-4)
+    returns-3)
