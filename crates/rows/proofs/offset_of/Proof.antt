@@ -1,0 +1,56 @@
+-- `rows::offset_of` meets its contract: number j stands j times the width past the first.
+-- By the width's cases. Assumes nothing.
+use mathlib.Core.Path.{refl}
+use native.Mathlib.Omega.{arith}
+use borrow.Author.Needs.{needs}
+use Rattle.rows.proofs.offset_of.Statement.{statement}
+use Rattle.rows.proofs.offset_of.Tie as tie
+
+enum-told : tie.Need-enum-told
+enum-told c = search needs
+
+add-result : tie.Need-add-result
+add-result c = search needs
+
+enum-told-2 : tie.Need-enum-told-2
+enum-told-2 c = search needs
+
+mul-result : tie.Need-mul-result
+mul-result c = search needs
+
+add-result-2 : tie.Need-add-result-2
+add-result-2 c = search needs
+
+enum-told-3 : tie.Need-enum-told-3
+enum-told-3 c = search needs
+
+mul-result-2 : tie.Need-mul-result-2
+mul-result-2 c = search needs
+
+add-result-3 : tie.Need-add-result-3
+add-result-3 c = search needs
+
+returns : tie.Need-returns
+returns c = (rw (c .enum-told .given .1) (omega arith), omega arith)
+
+returns-2 : tie.Need-returns-2
+returns-2 c = (rw (c .enum-told2 .given .1) refl, omega arith)
+
+returns-3 : tie.Need-returns-3
+returns-3 c = (rw (c .enum-told3 .given .1) refl, omega arith)
+
+pub offset-of-spec : {M : Type 1} → statement M
+offset-of-spec =
+    tie.close
+    (tie.spec
+    enum-told
+    add-result
+    enum-told-2
+    mul-result
+    add-result-2
+    enum-told-3
+    mul-result-2
+    add-result-3
+    returns
+    returns-2
+    returns-3)

@@ -1,0 +1,58 @@
+-- `rows::run_fault` meets its contract: the place of the first number that breaks the rule.
+-- By the laws of a search: the numbers below j are passed. Assumes nothing.
+use Prim.Native.Nat.{_-_}
+use borrow.Author.Needs.{needs}
+use Rattle.laws.specs.Search.{Searched, searched-none, searched-found, searched-more, searched-all}
+use Rattle.rows.specs.Rows.{breaks}
+use Rattle.rows.specs.Arms.{run-stop, run-clean}
+use Rattle.rows.proofs.run_fault.Statement.{statement}
+use Rattle.rows.proofs.run_fault.Tie as tie
+
+abbrev Inv-loop : tie.InvT-loop
+Inv-loop header base run count j₀ j = Searched (breaks header base run) count j
+
+abbrev μ-loop : tie.MeasureT-loop
+μ-loop header base run count j₀ j = count - j
+
+figure-requires : tie.Need-figure-requires Inv-loop μ-loop
+figure-requires c κs = search needs
+
+loop-holds : tie.Need-loop-holds Inv-loop μ-loop
+loop-holds c = searched-none _ _
+
+is-broken-requires : tie.Need-is-broken-requires Inv-loop μ-loop
+is-broken-requires c κs = search needs
+
+place-of-requires : tie.Need-place-of-requires Inv-loop μ-loop
+place-of-requires c κs = search needs
+
+returns : tie.Need-returns Inv-loop μ-loop
+returns c = run-stop _ _ _ (c .before .before .before .before .before .figure .ensures .0) (searched-found _ _ _ (c .before .before .before .before .loop .inv) (c .before .before .before .loop-test .taken) (c .before .before .is-broken .ensures) (c .before .if1 .taken)) (c .place-of .ensures)
+
+add-j : tie.Need-add-j Inv-loop μ-loop
+add-j c = search needs
+
+loop-less : tie.Need-loop-less Inv-loop μ-loop
+loop-less c = search needs
+
+loop-again : tie.Need-loop-again Inv-loop μ-loop
+loop-again c = searched-more _ _ _ (c .before .before .before .loop .inv) (c .before .before .loop-test .taken) (c .before .is-broken .ensures) (c .if1 .left)
+
+returns-2 : tie.Need-returns-2 Inv-loop μ-loop
+returns-2 c = run-clean _ _ _ (c .before .before .figure .ensures .0) (searched-all _ _ _ (c .before .loop .inv) (c .loop-test .left))
+
+pub run-fault-spec : {M : Type 1} → statement M
+run-fault-spec =
+    tie.close
+    (tie.spec
+    Inv-loop
+    μ-loop
+    figure-requires
+    loop-holds
+    is-broken-requires
+    place-of-requires
+    returns
+    add-j
+    loop-less
+    loop-again
+    returns-2)
