@@ -171,6 +171,13 @@ rowsOf Sample1000 = sample1000Rows
 rowsOf Program = programRows
 rowsOf Keygroup = keygroupRows
 
+-- The bytes of a header.
+abbrev pub headerSize : Table → ℕ
+headerSize Sample900 = 60
+headerSize Sample1000 = 150
+headerSize Program = 150
+headerSize Keygroup = 150
+
 -- ---- the tables one after another, as the code has them
 
 unfoldable pub allRows : List Row

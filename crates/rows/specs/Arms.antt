@@ -21,7 +21,7 @@ use Rattle.rows.specs.declared.Rule.the-variants.{From, Within, OrOff, O
 use Rattle.rows.specs.declared.Row.{Row}
 use Rattle.rows.specs.declared.Row.the-variants.{Only}
 use Rattle.rows.specs.declared.Run.{Run}
-use Rattle.rows.specs.Rows.{sizeOf, runOf, legal, Read, breaks, placeOf, placed, runFault, orElse, rowsFault}
+use Rattle.rows.specs.Rows.{sizeOf, runOf, legal, Read, keeps, breaks, placeOf, placed, runFault, orElse, rowsFault}
 
 -- ---- a number
 
@@ -84,7 +84,7 @@ module _ (header : List ℕ) (base size v : ℕ) {r : Rule} where
 module _ (header : List ℕ) (base : ℕ) (run : Run) where
   pub breaks-by : (j : ℕ) {at o v : ℕ} {b : Bool} → at ≡ run .at → o ≡ at + sizeOf (run .width) * j → v ≡ number (sizeOf (run .width)) (bytes header) o
       → b ≡ legal header base (sizeOf (run .width)) (run .rule) v → (t : Bool) → b ≡ t → not t ≡ breaks header base run j
-  unfolding breaks
+  unfolding keeps
   breaks-by j p q e k t h = rw (← h, k, e, q, p) refl
 
   pub run-stop : {count j place : ℕ} → count ≡ run .count → At j ≡ lowest (breaks header base run) 0 count → place ≡ placeOf base run j → At place ≡ runFault header base run

@@ -72,16 +72,14 @@ pub record Read (header : List ℕ) (at : ℕ) (width : Width) (r : ℕ) : Type 
   pub value : r ≡ number (sizeOf width) (bytes header) at
   pub small : r < 4294967296
 
--- Where number j of a run stands.
-abbrev pub offsetOf : Run → ℕ → ℕ
-offsetOf run j = run .at + sizeOf (run .width) * j
-
--- Number j of a run breaks the run's rule.
-unfoldable pub breaks : List ℕ → ℕ → Run → ℕ → Bool
+-- Number j of a run keeps the run's rule, or breaks it.
+unfoldable pub keeps : List ℕ → ℕ → Run → ℕ → Bool
 unfolding legal number
-breaks header base run j =
-    let size = sizeOf (run .width) in
-    not (legal header base size (run .rule) (number size (bytes header) (offsetOf run j)))
+keeps header base run j =
+    let size = sizeOf (run .width) in legal header base size (run .rule) (number size (bytes header) (run .at + size * j))
+
+abbrev pub breaks : List ℕ → ℕ → Run → ℕ → Bool
+breaks header base run j = not (keeps header base run j)
 
 -- The place that number j of a run gives as a fault: in names and zeros the byte's own offset, else the row's first (document 01, "The files").
 abbrev pub placeOf : ℕ → Run → ℕ → ℕ
@@ -95,7 +93,7 @@ placed base run Nowhere = Nowhere
 placed base run (At j) = At (placeOf base run j)
 
 unfoldable pub runFault : List ℕ → ℕ → Run → Lowest
-unfolding lowest breaks
+unfolding lowest keeps
 runFault header base run = placed base run (lowest (breaks header base run) 0 (run .count))
 
 abbrev pub rowFault : List ℕ → ℕ → Row → Lowest
