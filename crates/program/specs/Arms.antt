@@ -1,14 +1,14 @@
 -- What each arm of the code shows of a program's parts and of the check's answer.
 -- By the tests that led there; the loop over parts by the law of its fold. Assumes nothing.
 use mathlib.Core.Path.{_≡_, refl, sym, ap, _∙_}
-use mathlib.Core.Bool.{Bool, true, false}
+use mathlib.Core.Bool.{true, false}
 use mathlib.Core.List.{List}
 use Prim.Native.Nat.{ℕ, zero, suc, _+_, _-_, _*_, _≤_, _<_}
 use native.Mathlib.Omega.{arith}
 use lib.ListN.{length, take, drop}
 use borrow.Author.Tests.{lt-ltb, le-ltb, eq-eqb, ne-eqb}
-use Rattle.laws.specs.Truth.{within, within-in, within-below, within-above}
-use Rattle.laws.specs.Scan.{over, over-end, over-next}
+use Rattle.laws.specs.Truth.{within-in, within-below, within-above}
+use Rattle.laws.specs.Scan.{over-end, over-next}
 use Rattle.laws.specs.Splice.{part}
 use Rattle.laws.specs.declared.Lowest.{Lowest}
 use Rattle.laws.specs.declared.Lowest.the-variants.{At, Nowhere}
@@ -56,7 +56,7 @@ module _ (file : List ℕ) {r : Counted} where
   unfolding programOf
   program-short h e = rw (e, lt-ltb (length file) 150 h, programOf) refl
 
-  uncounted : {n : ℕ} → 150 ≤ length file → n ≡ keygroupsOf file → counted file n ≡ false → r ≡ refusedAt 42 → r ≡ programOf file
+  pub uncounted : {n : ℕ} → 150 ≤ length file → n ≡ keygroupsOf file → counted file n ≡ false → r ≡ refusedAt 42 → r ≡ programOf file
   unfolding programOf
   uncounted h e k t = let q : counted file (keygroupsOf file) ≡ false = rw e at k in rw (t, le-ltb (length file) 150 h, programOf, q) refl
 

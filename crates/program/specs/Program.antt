@@ -41,7 +41,7 @@ unfoldable pub partFault : List ℕ → ℕ → Lowest
 unfolding part rowsFault
 partFault file k = rowsFault (partAt file k) (150 * k) (rowsOf (tableOf k))
 
--- The same of the n parts from part k on: the lowest there is (`parts-least`).
+-- The same of the n parts from part k on: the lowest there is (`program-lowest`).
 unfoldable pub partsFault : List ℕ → ℕ → ℕ → Lowest
 unfolding over partFault
 partsFault file k n = over (λ i rest. orElse (partFault file i) rest) Nowhere k n
@@ -67,20 +67,27 @@ programOf file =
 
 -- ---- the rules
 
--- A file of n keygroups: 42 says so, and the length is theirs.
+-- Part k keeps every row of its table, or breaks one at this offset of the file.
+abbrev pub PartKept : List ℕ → ℕ → Type 0
+PartKept file k = AllKept (partAt file k) (150 * k) (rowsOf (tableOf k))
+
+abbrev pub PartFails : List ℕ → ℕ → ℕ → Type 0
+PartFails file k place = Failing (partAt file k) (150 * k) (rowsOf (tableOf k)) place
+
+-- A file of n keygroups: 42 says so, and the length is theirs and the header's.
 pub record Sized (file : List ℕ) (n : ℕ) : Type 0 where
   pub stated : keygroupsOf file ≡ n
   pub some : 1 ≤ n
   pub most : n ≤ 99
   pub size : length file ≡ 150 * (n + 1)
 
--- A right program of n keygroups: each part keeps every row of its table.
+-- A right program of n keygroups.
 pub record ProgramRules (file : List ℕ) (n : ℕ) : Type 0 where
   pub sized : Sized file n
-  pub kept : (k : ℕ) → k ≤ n → AllKept (partAt file k) (150 * k) (rowsOf (tableOf k))
+  pub kept : (k : ℕ) → k ≤ n → PartKept file k
 
--- One of the parts 0 to n breaks its table at this offset.
+-- The header or one of n keygroups breaks its table at this offset.
 pub record Fails (file : List ℕ) (n place : ℕ) : Type 0 where
   pub index : ℕ
   pub inside : index ≤ n
-  pub failing : Failing (partAt file index) (150 * index) (rowsOf (tableOf index)) place
+  pub failing : PartFails file index place

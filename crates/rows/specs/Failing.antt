@@ -93,8 +93,13 @@ true-back : (b : Bool) → not b ≡ false → b ≡ true
 true-back true e = refl
 true-back false e = absurd (true≢false e)
 
-never : {place : ℕ} → At place ≡ Nowhere → ⊥
+-- there is a place, or there is none
+pub never : {place : ℕ} → At place ≡ Nowhere → ⊥
 never e = let o : _≡_ {A = ℕ} 0 1 = cc in omega arith
+
+pub none-of : (f g : Lowest) → orElse f g ≡ Nowhere → (f ≡ Nowhere) × (g ≡ Nowhere)
+none-of (At place) g e = absurd (never e)
+none-of Nowhere g e = (refl, e)
 
 module _ (header : List ℕ) (base : ℕ) (row : Row) where
   -- a broken row's place lies in the row
@@ -198,10 +203,6 @@ module _ (header : List ℕ) (base : ℕ) where
   kept-nowhere [] k place f = f
   kept-nowhere (row ∷ rows) k place (inl b) = clash (k .0 (b .index) (b .inside)) (b .broken)
   kept-nowhere (row ∷ rows) k place (inr f) = kept-nowhere rows (k .1) place f
-
-  none-of : (f g : Lowest) → orElse f g ≡ Nowhere → (f ≡ Nowhere) × (g ≡ Nowhere)
-  none-of (At place) g e = absurd (never e)
-  none-of Nowhere g e = (refl, e)
 
   no-fault : (rows : List Row) → rowsFault header base rows ≡ Nowhere → AllKept header base rows
   unfolding rowsFault
