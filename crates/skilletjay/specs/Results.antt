@@ -15,7 +15,10 @@ use Rattle.skilletjay.specs.declared.CChecked.{CChecked}
 use Rattle.skilletjay.specs.declared.CListed.{CListed}
 use Rattle.skilletjay.specs.declared.CFound.{CFound}
 use Rattle.skilletjay.specs.declared.CPaged.{CPaged}
+use Rattle.headers.specs.declared.Counted.{Counted}
+use Rattle.headers.specs.declared.Counted.the-variants.{Done, Refused}
 use Rattle.skilletjay.specs.declared.CDone.{CDone}
+use Rattle.skilletjay.specs.declared.CCounted.{CCounted}
 
 abbrev pub kindNumber : Kind → ℕ
 kindNumber S900 = 900
@@ -95,3 +98,9 @@ doneResult (slotIs slot) = doneRefusal 0 0
 doneResult (paged count end) = doneRefusal 0 0
 doneResult done = doneRefusal 0 0
 doneResult (refused number place) = doneRefusal number place
+
+-- ---- sample and program files
+
+abbrev pub countedResult : Counted → CCounted
+countedResult (Done count) = record { refusal = 0; place = 0; count = count }
+countedResult (Refused number place) = record { refusal = number; place = place; count = 0 }

@@ -5,7 +5,8 @@ ghost use Rattle.record.specs.Record.{check};
 ghost use Rattle.rules.specs.Check.{answerOf, callOf};
 ghost use Rattle.calls.specs.Answers.{foundOf, pagedOf, listedOf, removedOf, listCall, findCall, pageCall, putCall, removeCall};
 ghost use Rattle.session.specs.Script.{afterRun, runOf};
-ghost use Rattle.skilletjay.specs.Results.{kindNumber, densityNumber, checkedResult, listedRefusal, listedWith, listedResult, foundRefusal, foundResult, pagedRefusal, pagedResult, doneResult};
+ghost use Rattle.program.specs.Program.{programOf};
+ghost use Rattle.skilletjay.specs.Results.{kindNumber, densityNumber, checkedResult, listedRefusal, listedWith, listedResult, foundRefusal, foundResult, pagedRefusal, pagedResult, doneResult, countedResult};
 ghost use Rattle.skilletjay.specs.Narrow.{narrow};
 
 // sj_checked: kind 900 or 1000, density 0 low or 1 high, the number of files and of free blocks.
@@ -51,6 +52,14 @@ pub struct CPaged {
 pub struct CDone {
     pub refusal: u32,
     pub place: usize,
+}
+
+// sj_counted: words of a sample, bytes of a file, keygroups of a program.
+#[repr(C)]
+pub struct CCounted {
+    pub refusal: u32,
+    pub place: usize,
+    pub count: usize,
 }
 
 // A refusal's number in 32 bits. No call has one that this changes (`call-narrow`).
@@ -246,6 +255,24 @@ fn done_result(removed: calls::Removed) -> CDone
     }
 }
 
+// What C gets of a call on a sample or program file.
+fn counted_result(counted: headers::Counted) -> CCounted
+    ensures { λ r. ⌜ r ≡ countedResult counted ⌝ }
+{
+    match counted {
+        headers::Counted::Done(count) => CCounted {
+            refusal: 0,
+            place: 0,
+            count,
+        },
+        headers::Counted::Refused { number, place } => CCounted {
+            refusal: number,
+            place,
+            count: 0,
+        },
+    }
+}
+
 // Whether an image is accepted: refusals 1 to 9. The image is lent and kept.
 #[no_mangle]
 pub extern "C" fn sj_check(image: &[u8]) -> CChecked
@@ -306,4 +333,12 @@ pub extern "C" fn sj_run(image: &mut [u8], script: &[u8], pool: &[u8], out: &mut
     ensures { λ r. ⌜ afterRun r (now (out .exit)) (now (image .exit)) ≡ runOf (now (image .entry)) (now (script .entry)) (now (pool .entry)) (now (out .entry)) ⌝ }
 {
     session::run(image, script, pool, out)
+}
+
+// The number of keygroups of an S1000 program file: refusal 20. The file is lent and kept.
+#[no_mangle]
+pub extern "C" fn sj_program(file: &[u8]) -> CCounted
+    ensures { λ r. ⌜ r ≡ countedResult (programOf (now (file .entry))) ⌝ }
+{
+    counted_result(program::check(file))
 }
