@@ -1,0 +1,26 @@
+-- `words::word12` meets its contract: the bits turned by half of their range, and lowered by it, are the word.
+-- One law over the range, `lowered-word`. Assumes nothing.
+use mathlib.Core.Path.{_∙_}
+use Prim.Native.Nat.{_+_, _%_}
+use native.Mathlib.Omega.{arith}
+use borrow.Author.Needs.{needs}
+use mir.Syntax.{w16}
+use mir.Facts.{toZ-ofZ}
+use Rattle.words.specs.Signed.{lowered-word}
+use Rattle.words.proofs.word12.Statement.{statement}
+use Rattle.words.proofs.word12.Tie as tie
+
+add-lowered : tie.Need-add-lowered
+add-lowered c = search needs
+
+lowered-requires : tie.Need-lowered-requires
+lowered-requires c κs = search needs
+
+returns : tie.Need-returns
+returns c =
+    let bits = c .before .args .bits in
+    toZ-ofZ {w = w16} (record { sfits = c .lowered .ok }) ∙ c .lowered .ensures
+    ∙ lowered-word 2048 bits ((bits + 2048) % 4096) (λ h. omega arith) (λ h. omega arith) (omega arith)
+
+pub word12-spec : {M : Type 1} → statement M
+word12-spec = tie.close (tie.spec add-lowered lowered-requires returns)

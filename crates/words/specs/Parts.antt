@@ -1,0 +1,58 @@
+-- Lists made of parts, one for each number of a range, and loops that write such a list part by part.
+-- A loop looks forward: what is left, written where it belongs, is the whole written. Assumes nothing.
+use mathlib.Core.Path.{_≡_, refl, sym, ap, _∙_}
+use mathlib.Core.List.{List, [], _∷_, _++_, map}
+use Prim.Native.Nat.{ℕ, zero, suc, _+_, _-_, _*_, _≤_, _<_}
+use native.Mathlib.Nat.{add-suc, suc-add, add-zero, sub-zero, mul-zero, mul-suc, add-assoc}
+use native.Mathlib.Numerals.{add-one}
+use native.Mathlib.Omega.{arith}
+use lib.ListN.{length, set}
+use lib.Seq.{sets, length-sets}
+use Rattle.laws.specs.Scan.{over, over-end, over-next}
+use Rattle.laws.specs.Reader.{tab}
+
+-- the parts of the n numbers from i on, one after another
+unfoldable pub parts : {A : Type 0} → (ℕ → List A) → ℕ → ℕ → List A
+unfolding over
+parts f i n = over (λ k rest. f k ++ rest) [] i n
+
+-- a part of one element each
+pub parts-tab : (f : ℕ → ℕ) (i n : ℕ) → tab f i n ≡ parts (λ k. f k ∷ []) i n
+unfolding parts tab
+parts-tab f i n = refl
+
+pub parts-map : {A : Type 0} (g : ℕ → A) (f : ℕ → ℕ) (i n : ℕ) → map g (tab f i n) ≡ parts (λ k. g (f k) ∷ []) i n
+unfolding parts tab
+parts-map g f i zero = refl
+parts-map g f i (suc n) = ap (λ r. g (f i) ∷ r) (parts-map g f (suc i) n)
+
+module _ {A : Type 0} where
+  -- a write that goes on where another ends
+  pub sets-append : (l : List A) (at : ℕ) (vs us : List A) → sets (sets l at vs) (at + length vs) us ≡ sets l at (vs ++ us)
+  sets-append l at [] us = rw (add-zero at)
+  sets-append l at (v ∷ vs) us = rw (add-suc at (length vs), ← suc-add at (length vs)) (sets-append (set l at v) (suc at) vs us)
+
+-- l is l₀ with the parts of the numbers below i written from `at` on, each of `size` elements; n parts are due
+pub record Written {A : Type 0} (f : ℕ → List A) (size at n : ℕ) (l₀ l : List A) (i : ℕ) : Type 0 where
+  pub low : i ≤ n
+  pub long : length l ≡ length l₀
+  pub left : sets l (at + size * i) (parts f i (n - i)) ≡ sets l₀ at (parts f 0 n)
+
+module _ {A : Type 0} (f : ℕ → List A) (size at n : ℕ) (l₀ : List A) where
+  pub written-none : Written f size at n l₀ l₀ 0
+  written-none = record { low = omega arith; long = refl; left = rw (sub-zero n, mul-zero size, add-zero at) refl }
+
+  pub written-more : {l m : List A} {i : ℕ} → Written f size at n l₀ l i → i < n → length (f i) ≡ size → m ≡ sets l (at + size * i) (f i) → Written f size at n l₀ m (i + 1)
+  unfolding parts
+  written-more {l} {m} {i} w h e p = record {
+    low = omega arith;
+    long = ap length p ∙ length-sets l (at + size * i) (f i) ∙ w .long;
+    left =
+        let next : at + size * (i + 1) ≡ at + size * i + length (f i) = rw (add-one i, mul-suc size i, e) (sym (add-assoc at (size * i) size)) in
+        rw (p, next) (sets-append l (at + size * i) (f i) (parts f (i + 1) (n - (i + 1))))
+        ∙ ap (sets l (at + size * i)) (sym (over-next _ [] i n h)) ∙ w .left;
+  }
+
+  pub written-all : {l : List A} {i : ℕ} → Written f size at n l₀ l i → n ≤ i → l ≡ sets l₀ at (parts f 0 n)
+  unfolding parts
+  written-all {l} {i} w h = sym (ap (sets l (at + size * i)) (over-end _ [] i n h)) ∙ w .left
