@@ -3,10 +3,10 @@
 use mathlib.Core.Path.{_≡_, refl, sym, ap, _∙_}
 use mathlib.Core.List.{List, [], _∷_, _++_, map}
 use Prim.Native.Nat.{ℕ, zero, suc, _+_, _-_, _*_, _≤_, _<_}
-use native.Mathlib.Nat.{add-suc, suc-add, add-zero, sub-zero, mul-zero, mul-suc, add-assoc}
+use native.Mathlib.Nat.{add-suc, suc-add, add-zero, sub-zero, mul-zero, mul-suc, add-assoc, add-comm}
 use native.Mathlib.Numerals.{add-one}
 use native.Mathlib.Omega.{arith}
-use lib.ListN.{length, set}
+use lib.ListN.{length, set, length-append}
 use lib.Seq.{sets, length-sets}
 use Rattle.laws.specs.Scan.{over, over-end, over-next}
 use Rattle.laws.specs.Reader.{tab}
@@ -25,6 +25,11 @@ pub parts-map : {A : Type 0} (g : ℕ → A) (f : ℕ → ℕ) (i n : ℕ) → m
 unfolding parts tab
 parts-map g f i zero = refl
 parts-map g f i (suc n) = ap (λ r. g (f i) ∷ r) (parts-map g f (suc i) n)
+
+pub length-parts : {A : Type 0} (f : ℕ → List A) (size : ℕ) → ((k : ℕ) → length (f k) ≡ size) → (i n : ℕ) → length (parts f i n) ≡ size * n
+unfolding parts
+length-parts f size h i zero = sym (mul-zero size)
+length-parts f size h i (suc n) = length-append (f i) (parts f (suc i) n) ∙ rw (h i, length-parts f size h (suc i) n, mul-suc size n) (add-comm size (size * n))
 
 module _ {A : Type 0} where
   -- a write that goes on where another ends
@@ -56,3 +61,15 @@ module _ {A : Type 0} (f : ℕ → List A) (size at n : ℕ) (l₀ : List A) whe
   pub written-all : {l : List A} {i : ℕ} → Written f size at n l₀ l i → n ≤ i → l ≡ sets l₀ at (parts f 0 n)
   unfolding parts
   written-all {l} {i} w h = sym (ap (sets l (at + size * i)) (over-end _ [] i n h)) ∙ w .left
+
+-- its turn by one element, and by two, with indices and values as the code has them
+pub written-one : {A : Type 0} (g : ℕ → A) (at n : ℕ) (l₀ : List A) {l : List A} {i j : ℕ} {v : A}
+    → Written (λ k. g k ∷ []) 1 at n l₀ l i → i < n → j ≡ at + i → v ≡ g i → Written (λ k. g k ∷ []) 1 at n l₀ (set l j v) (i + 1)
+written-one g at n l₀ {l} {i} w h p e =
+    let z : at + i ≡ at + 1 * i = omega arith in
+    written-more (λ k. g k ∷ []) 1 at n l₀ w h refl (rw (e, p, z) refl)
+
+pub written-two : {A : Type 0} (f g : ℕ → A) (at n : ℕ) (l₀ : List A) {l : List A} {i j k : ℕ} {v u : A}
+    → Written (λ k. f k ∷ g k ∷ []) 2 at n l₀ l i → i < n → j ≡ at + 2 * i → k ≡ at + 2 * i + 1 → v ≡ f i → u ≡ g i
+    → Written (λ k. f k ∷ g k ∷ []) 2 at n l₀ (set (set l j v) k u) (i + 1)
+written-two f g at n l₀ {l} {i} w h p q d e = written-more (λ k. f k ∷ g k ∷ []) 2 at n l₀ w h refl (rw (d, e, p, q, add-one (at + 2 * i)) refl)

@@ -30,6 +30,10 @@ pub fits32 : (w : ℤ) → Short w → SFits w32 w
 fits32 (pos n) h = record { sfits = omega arith }
 fits32 (negsuc n) h = record { sfits = omega arith }
 
+-- a word as the code reads it, from its bits
+pub read-back : (w : ℤ) → SFits w16 w → toZ w16 (ofZ w16 w) ≡ w
+read-back w f = toZ-ofZ {w = w16} {z = w} f
+
 -- ---- a word plus 65,536
 
 abbrev pub up : ℤ → ℕ

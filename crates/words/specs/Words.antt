@@ -38,14 +38,17 @@ lowBits words half i = 16 * (bitsAt 4096 words i % 16) + bitsAt 4096 words (half
 abbrev pub highBits : List ℤ → ℕ → ℕ
 highBits words i = bitsAt 4096 words i / 16
 
--- Bytes 2i and 2i + 1.
+-- Bytes 2i and 2i + 1, and byte i after all pairs.
 abbrev pub pairAt : List ℤ → ℕ → ℕ → List ℕ
 pairAt words half i = lowBits words half i ∷ highBits words i ∷ []
+
+abbrev pub upperBits : List ℤ → ℕ → ℕ → ℕ
+upperBits words half i = highBits words (half + i)
 
 -- The data of words: a pair of bytes for each word of the first half, then one byte for each of the second.
 unfoldable pub packed900 : List ℤ → List ℕ
 unfolding parts tab
-packed900 words = let half = length words / 2 in parts (pairAt words half) 0 half ++ tab (highBits words) half half
+packed900 words = let half = length words / 2 in parts (pairAt words half) 0 half ++ tab (upperBits words half) 0 half
 
 -- The bits of word i of the first half, and of word i of the second.
 abbrev pub firstBits : (ℕ → ℕ) → ℕ → ℕ

@@ -1,0 +1,19 @@
+-- `samples::high_byte` meets its contract: the byte is the upper eight of the word's 12 bits.
+-- The word is read from its bits. Assumes nothing.
+use mathlib.Core.Path.{refl}
+use borrow.Author.Needs.{needs}
+use Rattle.words.specs.Signed.{read-back}
+use Rattle.samples.proofs.high_byte.Statement.{statement}
+use Rattle.samples.proofs.high_byte.Tie as tie
+
+bits12-requires : tie.Need-bits12-requires
+bits12-requires c κs = search needs
+
+cast-result : tie.Need-cast-result
+cast-result c = search needs
+
+returns : tie.Need-returns
+returns c = rw (c .bits12 .ensures .0, read-back (c .before .args .word) (c .before .fits .word)) refl
+
+pub high-byte-spec : {M : Type 1} → statement M
+high-byte-spec = tie.close (tie.spec bits12-requires cast-result returns)
