@@ -1,2 +1,4 @@
 pub mod Samples
 pub mod Data
+pub mod Rules
+pub mod Steps

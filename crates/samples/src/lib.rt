@@ -141,3 +141,198 @@ fn store1000(words: &[i16], out: &mut [u8], at: usize)
         i += 1;
     }
 }
+
+// ---- by the sampler
+
+fn header_size(sampler: Sampler) -> usize
+    ensures { λ r. ⌜ (r ≡ headerSize sampler) × (r ≤ 150) ⌝ }
+{
+    match sampler {
+        Sampler::S900 => 60,
+        Sampler::S1000 => 150,
+    }
+}
+
+fn count_offset(sampler: Sampler) -> usize
+    ensures { λ r. ⌜ r ≡ countOffset sampler ⌝ }
+{
+    match sampler {
+        Sampler::S900 => 16,
+        Sampler::S1000 => 26,
+    }
+}
+
+fn table_of(sampler: Sampler) -> Table
+    ensures { λ r. ⌜ r ≡ tableOf sampler ⌝ }
+{
+    match sampler {
+        Sampler::S900 => Table::Sample900,
+        Sampler::S1000 => Table::Sample1000,
+    }
+}
+
+fn data_size(sampler: Sampler, count: usize) -> usize
+    requires { ⌜ count < 4294967296 ⌝ }
+    ensures { λ r. ⌜ (r ≡ dataSize sampler count) × (r < 8589934592) ⌝ }
+{
+    match sampler {
+        Sampler::S900 => count + count / 2,
+        Sampler::S1000 => 2 * count,
+    }
+}
+
+fn is_whole(sampler: Sampler, count: usize) -> bool
+    ensures { λ r. ⌜ r ≡ isWhole sampler count ⌝ }
+{
+    match sampler {
+        Sampler::S900 => count % 2 == 0,
+        Sampler::S1000 => true,
+    }
+}
+
+// Fills the words of data.
+fn fill(sampler: Sampler, source: &[u8], count: usize, words: &mut [i16])
+    requires { ⌜ (dataSize sampler count ≤ length (now source)) × (count ≤ length (now words)) ⌝ }
+    ensures { λ _. ⌜ now (words .exit) ≡ sets (now (words .entry)) 0 (unpacked sampler (bytes (now (source .entry))) count) ⌝ }
+{
+    match sampler {
+        Sampler::S900 => fill900(source, count, words),
+        Sampler::S1000 => fill1000(source, count, words),
+    }
+}
+
+// Stores the data of words from an offset on.
+fn store(sampler: Sampler, words: &[i16], out: &mut [u8], at: usize)
+    requires { ⌜ at + dataSize sampler (length (now words)) ≤ length (now out) ⌝ }
+    ensures { λ _. ⌜ now (out .exit) ≡ splice (now (out .entry)) at (packed sampler (now (words .entry))) ⌝ }
+{
+    match sampler {
+        Sampler::S900 => store900(words, out, at),
+        Sampler::S1000 => store1000(words, out, at),
+    }
+}
+
+// ---- refusals
+
+// The number of words that a header gives.
+fn count_in(sampler: Sampler, header: &[u8]) -> usize
+    requires { ⌜ length (now header) ≡ headerSize sampler ⌝ }
+    ensures { λ r. ⌜ Number 4 (bytes (now (header .entry))) (countOffset sampler) r ⌝ }
+{
+    blocks::number4(header, count_offset(sampler))
+}
+
+// Whether a number of words is one that the sampler has, and what it makes due is what there is.
+fn is_right(sampler: Sampler, count: usize, there: usize, due: usize) -> bool
+    ensures { λ r. ⌜ r ≡ both (isWhole sampler count) (eqb there due) ⌝ }
+{
+    if is_whole(sampler, count) {
+        return there == due;
+    }
+    false
+}
+
+fn head_fault(sampler: Sampler, header: &[u8], right: bool) -> Lowest
+    ensures { λ r. ⌜ r ≡ headFault sampler (now (header .entry)) right ⌝ }
+{
+    if right {
+        return headers::fault(header, 0, table_of(sampler));
+    }
+    Lowest::At(count_offset(sampler))
+}
+
+fn file_fault(sampler: Sampler, file: &[u8]) -> Lowest
+    ensures { λ r. ⌜ r ≡ fileFault sampler (now (file .entry)) ⌝ }
+{
+    let size = header_size(sampler);
+    let there = file.len();
+    if there < size {
+        return Lowest::At(0);
+    }
+    let header = &file[0..size];
+    let count = count_in(sampler, header);
+    let due = size + data_size(sampler, count);
+    head_fault(sampler, header, is_right(sampler, count, there, due))
+}
+
+fn header_fault(sampler: Sampler, header: &[u8], given: usize) -> Lowest
+    ensures { λ r. ⌜ r ≡ headerFault sampler (now (header .entry)) given ⌝ }
+{
+    if header.len() != header_size(sampler) {
+        return Lowest::At(0);
+    }
+    let count = count_in(sampler, header);
+    head_fault(sampler, header, is_right(sampler, count, count, given))
+}
+
+// The lowest word that 12 bits do not hold.
+fn lowest_outside(words: &[i16]) -> Lowest
+    ensures { λ r. ⌜ r ≡ lowest (isOutside (now (words .entry))) 0 (length (now (words .entry))) ⌝ }
+{
+    let count = words.len();
+    let mut i: usize = 0;
+    while i < count {
+        if words::is_short(words[i]) {
+            i += 1;
+        } else {
+            return Lowest::At(i);
+        }
+    }
+    Lowest::Nowhere
+}
+
+fn range_fault(sampler: Sampler, words: &[i16]) -> Lowest
+    ensures { λ r. ⌜ r ≡ rangeFault sampler (now (words .entry)) ⌝ }
+{
+    match sampler {
+        Sampler::S900 => lowest_outside(words),
+        Sampler::S1000 => Lowest::Nowhere,
+    }
+}
+
+// ---- the calls
+
+// Fills the words of a sample file into a lent array, and gives their number.
+pub fn unpack(sampler: Sampler, file: &[u8], words: &mut [i16]) -> Counted
+    ensures { λ r. ⌜ filled r (now (words .exit)) ≡ unpackOf sampler (now (file .entry)) (now (words .entry)) ⌝ }
+{
+    let fault = file_fault(sampler, file);
+    if let Lowest::At(place) = fault {
+        return Counted::Refused { number: 18, place };
+    }
+    let size = header_size(sampler);
+    let count = count_in(sampler, &file[0..size]);
+    if words.len() < count {
+        return Counted::Refused {
+            number: 21,
+            place: 0,
+        };
+    }
+    fill(sampler, &file[size..], count, words);
+    Counted::Done(count)
+}
+
+// Stores the sample file of a header and words, and gives the file's length.
+pub fn pack(sampler: Sampler, header: &[u8], words: &[i16], out: &mut [u8]) -> Counted
+    ensures { λ r. ⌜ filled r (now (out .exit)) ≡ packOf sampler (now (header .entry)) (now (words .entry)) (now (out .entry)) ⌝ }
+{
+    let fault = header_fault(sampler, header, words.len());
+    if let Lowest::At(place) = fault {
+        return Counted::Refused { number: 18, place };
+    }
+    let outside = range_fault(sampler, words);
+    if let Lowest::At(place) = outside {
+        return Counted::Refused { number: 19, place };
+    }
+    let size = header_size(sampler);
+    let due = size + data_size(sampler, count_in(sampler, header));
+    if out.len() < due {
+        return Counted::Refused {
+            number: 21,
+            place: 0,
+        };
+    }
+    blocks::copy_part(header, 0, out, 0, size);
+    store(sampler, words, out, size);
+    Counted::Done(due)
+}
