@@ -106,9 +106,12 @@ headerFault sampler header given =
     let count = countIn sampler header in
     pick (eqb (length header) (headerSize sampler)) (headFault sampler header (both (isWhole sampler count) (eqb count given))) (At 0)
 
--- Refusal 19: a word that the S900's 12 bits do not hold.
+-- Refusal 19: word i, which the S900's 12 bits hold or do not.
+abbrev pub isShort : List ℤ → ℕ → Bool
+isShort words i = holds 4096 (getD words i (pos 0))
+
 abbrev pub isOutside : List ℤ → ℕ → Bool
-isOutside words i = not (holds 4096 (getD words i (pos 0)))
+isOutside words i = not (isShort words i)
 
 abbrev pub rangeFault : Sampler → List ℤ → Lowest
 rangeFault S900 words = lowest (isOutside words) 0 (length words)

@@ -1,7 +1,7 @@
 -- What the code finds, one test or call after another, is what the definitions of the faults and of the calls say.
 -- Each step is a rewriting by what the code has in hand. Assumes nothing.
 use mathlib.Core.Path.{_≡_, refl, sym, ap, _∙_}
-use mathlib.Core.Bool.{Bool, true, false}
+use mathlib.Core.Bool.{Bool, true, false, not, Bool·not-not}
 use mathlib.Core.List.{List, _++_}
 use Prim.Native.Nat.{ℕ, _+_, _-_, _≤_, _<_}
 use native.Mathlib.Nat.{sub-zero, zero-add}
@@ -12,6 +12,7 @@ use lib.ListN.{length, take, drop, length-drop}
 use lib.Seq.{sets, take-all, length-take-le}
 use borrow.Author.Tests.{lt-ltb, le-ltb, eq-eqb, ne-eqb}
 use Rattle.laws.specs.Truth.{both}
+use Rattle.laws.specs.Scan.{all, all-end, all-stop, all-on, all→, →nowhere}
 use Rattle.laws.specs.Splice.{splice, part, splice-append}
 use Rattle.laws.specs.Reader.{bytes}
 use Rattle.laws.specs.declared.Lowest.{Lowest}
@@ -23,7 +24,7 @@ use Rattle.headers.specs.declared.Table.{Table}
 use Rattle.headers.specs.declared.Counted.the-variants.{Done, Refused}
 use Rattle.samples.specs.declared.Sampler.{Sampler}
 use Rattle.samples.specs.declared.Sampler.the-variants.{S900, S1000}
-use Rattle.samples.specs.Samples.{headerSize, countOffset, tableOf, dataSize, isWhole, countIn, fileSize, packed, unpacked, headerOf, wordsOf, headFault, fileFault, headerFault, rangeFault, roomFault, Filled, filled, unless, unpackOf, packOf}
+use Rattle.samples.specs.Samples.{headerSize, countOffset, tableOf, dataSize, isWhole, countIn, fileSize, packed, unpacked, headerOf, wordsOf, headFault, fileFault, headerFault, isShort, isOutside, rangeFault, roomFault, Filled, filled, unless, unpackOf, packOf}
 use Rattle.samples.specs.Rules.{HeaderRules, file-rules, header-rules}
 
 -- the number of words lies inside the header
@@ -75,6 +76,37 @@ module _ (sampler : Sampler) (header : List ℕ) (given : ℕ) {size : ℕ} (e :
       → f ≡ headFault sampler header right → f ≡ headerFault sampler header given
   unfolding headerFault
   header-head h p r z = rw (eq-eqb (length header) (headerSize sampler) (h ∙ e), headerFault, z, r, p) refl
+
+-- ---- the words' range
+
+-- the words below i are passed: short says whether all of them pass
+abbrev pub Passed : (ℕ → Bool) → ℕ → ℕ → Bool → Type 0
+Passed f n i short = (i ≤ n) × (both short (all f i (n - i)) ≡ all f 0 n)
+
+pub passed-none : (f : ℕ → Bool) (n : ℕ) → Passed f n 0 true
+passed-none f n = (omega arith, rw (sub-zero n) refl)
+
+both-no : (t : Bool) → both t false ≡ false
+both-no true = refl
+both-no false = refl
+
+both-yes : (t : Bool) → both t true ≡ t
+both-yes true = refl
+both-yes false = refl
+
+module _ (f : ℕ → Bool) (n i : ℕ) (short : Bool) (p : Passed f n i short) where
+  pub passed-more : i < n → not (f i) ≡ false → Passed f n (i + 1) short
+  passed-more h e = (omega arith, ap (both short) (sym (all-on f i n h (sym (Bool·not-not (f i)) ∙ ap not e))) ∙ p .1)
+
+  pub passed-not : i < n → not (f i) ≡ true → Passed f n (i + 1) false
+  passed-not h e = (omega arith, sym (both-no short) ∙ ap (both short) (sym (all-stop f i n h (sym (Bool·not-not (f i)) ∙ ap not e))) ∙ p .1)
+
+  pub passed-all : n ≤ i → short ≡ all f 0 n
+  passed-all h = sym (both-yes short) ∙ ap (both short) (sym (all-end f i n h)) ∙ p .1
+
+module _ {sampler : Sampler} (words : List ℤ) (e : sampler ≡ S900) {short : Bool} (p : short ≡ all (isShort words) 0 (length words)) where
+  pub range-short : short ≡ true → Nowhere ≡ rangeFault sampler words
+  range-short t = rw e (sym (→nowhere (isOutside words) 0 (length words) (λ k h l. ap not (all→ (isShort words) 0 (length words) (sym p ∙ t) k h l))))
 
 -- ---- refusals in order
 

@@ -6,13 +6,13 @@ ghost use lib.Dec.{eqb};
 ghost use lib.ListN.{length};
 ghost use lib.Seq.{sets};
 ghost use Rattle.laws.specs.Truth.{both};
-ghost use Rattle.laws.specs.Scan.{lowest};
+ghost use Rattle.laws.specs.Scan.{lowest, all};
 ghost use Rattle.laws.specs.Splice.{splice};
 ghost use Rattle.laws.specs.Reader.{bytes, tab};
 ghost use Rattle.blocks.specs.Numbers.{Number};
 ghost use Rattle.words.specs.Parts.{parts};
 ghost use Rattle.words.specs.Words.{bitsOf, wordOf, firstBits, secondBits, pairAt, upperBits, packed900, unpacked900};
-ghost use Rattle.samples.specs.Samples.{headerSize, countOffset, tableOf, dataSize, isWhole, packed1000, unpacked1000, packed, unpacked, headFault, fileFault, headerFault, isOutside, rangeFault, filled, unpackOf, packOf};
+ghost use Rattle.samples.specs.Samples.{headerSize, countOffset, tableOf, dataSize, isWhole, packed1000, unpacked1000, packed, unpacked, headFault, fileFault, headerFault, isShort, isOutside, rangeFault, filled, unpackOf, packOf};
 use headers::Counted;
 use headers::Table;
 use laws::Lowest;
@@ -265,6 +265,22 @@ fn header_fault(sampler: Sampler, header: &[u8], given: usize) -> Lowest
     head_fault(sampler, header, is_right(sampler, count, count, given))
 }
 
+// Whether 12 bits hold every word. It looks at all of them, which the compiler does many at a time.
+fn are_short(words: &[i16]) -> bool
+    ensures { λ r. ⌜ r ≡ all (isShort (now (words .entry))) 0 (length (now (words .entry))) ⌝ }
+{
+    let count = words.len();
+    let mut short = true;
+    let mut i: usize = 0;
+    while i < count {
+        if !words::is_short(words[i]) {
+            short = false;
+        }
+        i += 1;
+    }
+    short
+}
+
 // The lowest word that 12 bits do not hold.
 fn lowest_outside(words: &[i16]) -> Lowest
     ensures { λ r. ⌜ r ≡ lowest (isOutside (now (words .entry))) 0 (length (now (words .entry))) ⌝ }
@@ -285,7 +301,12 @@ fn range_fault(sampler: Sampler, words: &[i16]) -> Lowest
     ensures { λ r. ⌜ r ≡ rangeFault sampler (now (words .entry)) ⌝ }
 {
     match sampler {
-        Sampler::S900 => lowest_outside(words),
+        Sampler::S900 => {
+            if are_short(words) {
+                return Lowest::Nowhere;
+            }
+            lowest_outside(words)
+        }
         Sampler::S1000 => Lowest::Nowhere,
     }
 }

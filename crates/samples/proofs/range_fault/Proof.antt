@@ -1,12 +1,19 @@
 -- `samples::range_fault` meets its contract: only an S900 has words that its bits do not hold.
--- By the sampler. Assumes nothing.
+-- By the sampler, and by whether all words are held. Assumes nothing.
 use mathlib.Core.Path.{refl}
 use borrow.Author.Needs.{needs}
+use Rattle.samples.specs.Steps.{range-short}
 use Rattle.samples.proofs.range_fault.Statement.{statement}
 use Rattle.samples.proofs.range_fault.Tie as tie
 
 enum-told : tie.Need-enum-told
 enum-told c = search needs
+
+are-short-requires : tie.Need-are-short-requires
+are-short-requires c κs = search needs
+
+returns : tie.Need-returns
+returns c = range-short (c .before .before .before .before .args .words .now) (c .before .before .enum-told .given .1) (c .before .are-short .ensures) (c .if1 .taken)
 
 lowest-outside-requires : tie.Need-lowest-outside-requires
 lowest-outside-requires c κs = search needs
@@ -14,12 +21,20 @@ lowest-outside-requires c κs = search needs
 enum-told-2 : tie.Need-enum-told-2
 enum-told-2 c = search needs
 
-returns : tie.Need-returns
-returns c = rw (c .before .enum-told .given .1) (c .lowest-outside .ensures)
-
 returns-2 : tie.Need-returns-2
-returns-2 c = rw (c .enum-told2 .given .1) refl
+returns-2 c = rw (c .before .before .before .enum-told .given .1) (c .lowest-outside .ensures)
+
+returns-3 : tie.Need-returns-3
+returns-3 c = rw (c .enum-told2 .given .1) refl
 
 pub range-fault-spec : {M : Type 1} → statement M
 range-fault-spec =
-    tie.close (tie.spec enum-told lowest-outside-requires enum-told-2 returns returns-2)
+    tie.close
+    (tie.spec
+    enum-told
+    are-short-requires
+    returns
+    lowest-outside-requires
+    enum-told-2
+    returns-2
+    returns-3)
