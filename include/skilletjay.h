@@ -19,7 +19,12 @@
  *                                           16 content over 16,777,215 bytes place 0
  *                                           17 offset above the length       place 0
  *
- * Every call checks the image first and refuses by 1 to 9 before it looks at its other arguments.
+ *   18 sample file or header refused   the offset, 0 for its size
+ *   19 word outside -2,048 to 2,047    the lowest word's index
+ *   20 program file refused            the offset, 0 for its size
+ *   21 output shorter than what is due place 0
+ *
+ * Every call on an image checks it first and refuses by 1 to 9 before it looks at its other arguments.
  */
 #ifndef SKILLETJAY_H
 #define SKILLETJAY_H
@@ -67,6 +72,12 @@ typedef struct {
     size_t place;
 } sj_done;
 
+typedef struct {
+    uint32_t refusal;
+    size_t place;
+    size_t count;
+} sj_counted;
+
 /* Whether an image is accepted: refusals 1 to 9. Reads the length and the first 5,120 bytes. The image is lent and kept. */
 sj_checked sj_check(const uint8_t *image, size_t image_len);
 
@@ -105,6 +116,25 @@ sj_done sj_remove(uint8_t *image, size_t image_len, const uint8_t *name, size_t 
  * pool are lent and kept; a refused call keeps the image, and the script goes on. */
 size_t sj_run(uint8_t *image, size_t image_len, const uint8_t *script, size_t script_len, const uint8_t *pool, size_t pool_len, uint8_t *out,
               size_t out_len);
+
+/* The words of an S900 sample file, from -2,048 to 2,047, to the front of an array; gives their number. Refusal 18: at 0 for a file shorter
+ * than its header of 60 bytes, at 16 for an odd number of words or one that the file's length doesn't fit, else at the lowest offset of the header
+ * whose rule fails; then 21 for an array of fewer words. The array's other words are kept, and all of them on a refusal; so is the file. */
+sj_counted sj_s900_unpack(const uint8_t *file, size_t file_len, int16_t *words, size_t words_len);
+
+/* An S900 sample file of a header of 60 bytes and words, to the output's front; gives the file's length, 60 bytes and one and a half for each
+ * word. Refusal 18: at 0 for a header of another size, at 16 for an odd number of words or another than is lent, else at the lowest offset whose
+ * rule fails; then 19 at the lowest word that 12 bits don't hold; then 21. The output's other bytes are kept, and all of them on a refusal;
+ * so are header and words. */
+sj_counted sj_s900_pack(const uint8_t *header, size_t header_len, const int16_t *words, size_t words_len, uint8_t *out, size_t out_len);
+
+/* The same for S1000 sample files: a header of 150 bytes with the number of words at 26, and two bytes for each word. No word is refused. */
+sj_counted sj_s1000_unpack(const uint8_t *file, size_t file_len, int16_t *words, size_t words_len);
+sj_counted sj_s1000_pack(const uint8_t *header, size_t header_len, const int16_t *words, size_t words_len, uint8_t *out, size_t out_len);
+
+/* The number of keygroups of an S1000 program file. Refusal 20: at 0 under 150 bytes, at 42 for a number of keygroups that isn't 1 to 99 or that
+ * the length doesn't fit, else at the lowest offset whose rule fails. The file is lent and kept. */
+sj_counted sj_program(const uint8_t *file, size_t file_len);
 
 #ifdef __cplusplus
 }

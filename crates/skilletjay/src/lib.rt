@@ -5,9 +5,11 @@ ghost use Rattle.record.specs.Record.{check};
 ghost use Rattle.rules.specs.Check.{answerOf, callOf};
 ghost use Rattle.calls.specs.Answers.{foundOf, pagedOf, listedOf, removedOf, listCall, findCall, pageCall, putCall, removeCall};
 ghost use Rattle.session.specs.Script.{afterRun, runOf};
+ghost use Rattle.samples.specs.Samples.{unpackOf, packOf};
 ghost use Rattle.program.specs.Program.{programOf};
 ghost use Rattle.skilletjay.specs.Results.{kindNumber, densityNumber, checkedResult, listedRefusal, listedWith, listedResult, foundRefusal, foundResult, pagedRefusal, pagedResult, doneResult, countedResult};
 ghost use Rattle.skilletjay.specs.Narrow.{narrow};
+use samples::Sampler;
 
 // sj_checked: kind 900 or 1000, density 0 low or 1 high, the number of files and of free blocks.
 #[repr(C)]
@@ -333,6 +335,40 @@ pub extern "C" fn sj_run(image: &mut [u8], script: &[u8], pool: &[u8], out: &mut
     ensures { λ r. ⌜ afterRun r (now (out .exit)) (now (image .exit)) ≡ runOf (now (image .entry)) (now (script .entry)) (now (pool .entry)) (now (out .entry)) ⌝ }
 {
     session::run(image, script, pool, out)
+}
+
+// Unpacks a sample file into an array of words, and packs one from its header and words: refusals 18, for packing 19, and 21. What is read is lent
+// and kept; so is the output past what is due, and all of it on a refusal.
+#[no_mangle]
+pub extern "C" fn sj_s900_unpack(file: &[u8], words: &mut [i16]) -> CCounted
+    ensures answer { λ r. ⌜ r ≡ countedResult (unpackOf Sampler.S900 (now (file .entry)) (now (words .entry)) .answer) ⌝ }
+    ensures output { λ _. ⌜ now (words .exit) ≡ unpackOf Sampler.S900 (now (file .entry)) (now (words .entry)) .output ⌝ }
+{
+    counted_result(samples::unpack(Sampler::S900, file, words))
+}
+
+#[no_mangle]
+pub extern "C" fn sj_s900_pack(header: &[u8], words: &[i16], out: &mut [u8]) -> CCounted
+    ensures answer { λ r. ⌜ r ≡ countedResult (packOf Sampler.S900 (now (header .entry)) (now (words .entry)) (now (out .entry)) .answer) ⌝ }
+    ensures output { λ _. ⌜ now (out .exit) ≡ packOf Sampler.S900 (now (header .entry)) (now (words .entry)) (now (out .entry)) .output ⌝ }
+{
+    counted_result(samples::pack(Sampler::S900, header, words, out))
+}
+
+#[no_mangle]
+pub extern "C" fn sj_s1000_unpack(file: &[u8], words: &mut [i16]) -> CCounted
+    ensures answer { λ r. ⌜ r ≡ countedResult (unpackOf Sampler.S1000 (now (file .entry)) (now (words .entry)) .answer) ⌝ }
+    ensures output { λ _. ⌜ now (words .exit) ≡ unpackOf Sampler.S1000 (now (file .entry)) (now (words .entry)) .output ⌝ }
+{
+    counted_result(samples::unpack(Sampler::S1000, file, words))
+}
+
+#[no_mangle]
+pub extern "C" fn sj_s1000_pack(header: &[u8], words: &[i16], out: &mut [u8]) -> CCounted
+    ensures answer { λ r. ⌜ r ≡ countedResult (packOf Sampler.S1000 (now (header .entry)) (now (words .entry)) (now (out .entry)) .answer) ⌝ }
+    ensures output { λ _. ⌜ now (out .exit) ≡ packOf Sampler.S1000 (now (header .entry)) (now (words .entry)) (now (out .entry)) .output ⌝ }
+{
+    counted_result(samples::pack(Sampler::S1000, header, words, out))
 }
 
 // The number of keygroups of an S1000 program file: refusal 20. The file is lent and kept.

@@ -1,0 +1,27 @@
+-- `skilletjay::sj_s900_unpack` meets its contract: the result is that of unpacking's answer, and the output is what unpacking leaves.
+-- What `unpack` ensures, as C's fields. Assumes nothing.
+use mathlib.Core.Path.{ap, _∙_}
+use lib.IntN.{ℤ}
+use borrow.Author.Needs.{needs}
+use Rattle.samples.specs.Samples.{Filled}
+use Rattle.skilletjay.specs.Results.{countedResult}
+use Rattle.skilletjay.proofs.sj_s900_unpack.Statement.{statement}
+use Rattle.skilletjay.proofs.sj_s900_unpack.Tie as tie
+
+unpack-requires : tie.Need-unpack-requires
+unpack-requires c κs = search needs
+
+counted-result-requires : tie.Need-counted-result-requires
+counted-result-requires c κs = search needs
+
+same-length : tie.Need-same-length
+same-length c = search needs
+
+returns : tie.Need-returns
+returns c =
+    let e = c .before .before .unpack .ensures in
+    (c .counted-result .ensures ∙ ap (λ (o : Filled ℤ). countedResult (o .answer)) e, ap (λ (o : Filled ℤ). o .output) e)
+
+pub sj-s900-unpack-spec : {M : Type 1} → statement M
+sj-s900-unpack-spec =
+    tie.close (tie.spec unpack-requires counted-result-requires same-length returns)
