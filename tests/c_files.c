@@ -196,6 +196,18 @@ static void samples(const sampler *s) {
             try_pack(s, file, s->header, words, WORDS, 2 * MOST);
             file[at] = was;
         }
+    /* several rules broken at once: markers about N, and bytes anywhere but in N */
+    for (int k = 0; k < 20000; k++) {
+        make_header(s, file, WORDS);
+        for (size_t at = s->header == 60 ? 28 : 30; at <= (s->header == 60 ? 36 : 34); at += 4)
+            set_long(file, at, WORDS - 2 + next_random() % 4);
+        size_t at = next_random() % s->header;
+        if (k % 4 == 0 && (at < s->count_at || at > s->count_at + 3))
+            file[at] = (uint8_t)next_random();
+        try_unpack(s, file, s->header + WORDS * s->data / 2, words, WORDS);
+        try_pack(s, file, s->header, words, WORDS, 2 * MOST);
+    }
+    make_header(s, file, WORDS);
     for (int value = -32768; value <= 32767; value += value < -2100 || value > 2100 ? 997 : 1) {
         words[next_random() % WORDS] = (int16_t)value;
         try_pack(s, file, s->header, words, WORDS, 2 * MOST);
