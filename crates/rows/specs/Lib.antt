@@ -1,3 +1,4 @@
 pub mod Rows
 pub mod Arms
 pub mod Failing
+pub mod Signed

@@ -57,7 +57,7 @@ runOf (AtMost at other) = groupRun at 1 Four (rule.AtMost other)
 -- ---- rules
 
 -- Whether the number v of `size` bytes keeps a rule, in a header whose first byte is at offset `base` of its file. From -n to n in two's
--- complement is up to n, or at most n below the first number that takes more bytes.
+-- complement is up to n, or at most n below the first number that takes more bytes (`legal-signed`).
 unfoldable pub legal : List ℕ → ℕ → ℕ → Rule → ℕ → Bool
 unfolding number
 legal header base size (rule.From low high) v = within low high v
