@@ -178,7 +178,7 @@ fn part_of(table: Table) -> Part
     }
 }
 
-// The lowest place where a header breaks one of some rows. The rows are lent by value, which is several times faster than to fetch each by a call.
+// The lowest place where a header breaks one of the rows from the first on, below the end: one loop for all tables, lent their rows by value.
 fn rows_fault(
     header: &[u8],
     base: usize,
