@@ -2,3 +2,5 @@ pub mod Samples
 pub mod Data
 pub mod Rules
 pub mod Steps
+pub mod Back
+pub mod Calls
