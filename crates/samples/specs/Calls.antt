@@ -20,7 +20,7 @@ use Rattle.words.specs.Words.{holds}
 use Rattle.samples.specs.declared.Sampler.{Sampler}
 use Rattle.samples.specs.declared.Sampler.the-variants.{S900, S1000}
 use Rattle.samples.specs.Samples.{headerSize, dataSize, isWhole, countIn, fileSize, packed, headerOf, wordsOf, fileFault, headerFault, isOutside, rangeFault, roomFault, Filled, filled, unless, unpackOf, packOf}
-use Rattle.samples.specs.Rules.{HeaderRules, SampleRules, file-rules, rules-file, header-rules, rules-header}
+use Rattle.samples.specs.Rules.{HeaderRules, SampleRules, file-accepted, header-accepted}
 use Rattle.samples.specs.Back.{Held, Bytes, length-packed, unpacked-packed, length-unpacked, held-unpacked, packed-unpacked}
 
 -- Every element is a word of 16 bits.
@@ -62,9 +62,6 @@ held-range S1000 words held = refl
 -- ---- a packed file
 
 module _ (sampler : Sampler) (header : List ℕ) (words : List ℤ) (rules : HeaderRules sampler header) (count : countIn sampler header ≡ length words) where
-  file : List ℕ
-  file = header ++ packed sampler words
-
   whole : isWhole sampler (length words) ≡ true
   whole = ap (isWhole sampler) (sym count) ∙ rules .whole
 
@@ -120,7 +117,7 @@ module _ (sampler : Sampler) (header : List ℕ) (words : List ℤ) (out : List 
   p = pack-done sampler header words out size e
 
   rules : HeaderRules sampler header × (countIn sampler header ≡ length words)
-  rules = header-rules sampler header (length words) (p .fault)
+  rules = header-accepted sampler header (length words) .0 (p .fault)
 
   packed-file : take size (packOf sampler header words out .output) ≡ header ++ packed sampler words
   packed-file =
@@ -140,7 +137,7 @@ module _ (sampler : Sampler) (header : List ℕ) (words : List ℤ) (out : List 
       let n : countIn sampler (headerOf sampler file) ≡ length words = ap (countIn sampler) (packed-header sampler header words (rules .0) (rules .1)) ∙ rules .1 in
       let held = range-held sampler words w (p .range) in
       ap (λ (f : List ℕ). unpackOf sampler f into) packed-file
-      ∙ rw (rules-file sampler file r, packed-words sampler header words (rules .0) (rules .1) held, n) refl
+      ∙ rw (file-accepted sampler file .1 r, packed-words sampler header words (rules .0) (rules .1) held, n) refl
 
 -- ---- packing what was unpacked
 
@@ -168,7 +165,7 @@ module _ (sampler : Sampler) (file : List ℕ) (words : List ℤ) (count : ℕ) 
   u = unpack-done sampler file words count e
 
   r : SampleRules sampler file
-  r = file-rules sampler file (u .fault)
+  r = file-accepted sampler file .0 (u .fault)
 
   n : ℕ
   n = countIn sampler (headerOf sampler file)
@@ -208,4 +205,4 @@ module _ (sampler : Sampler) (file : List ℕ) (words : List ℤ) (count : ℕ) 
       let ws = wordsOf sampler file in
       let size : fileSize sampler (length ws) ≡ length file = ap (fileSize sampler) words-long ∙ sym (r .long) in
       ap (λ (v : List ℤ). packOf sampler (headerOf sampler file) v out) unpacked-words
-      ∙ rw (rules-header sampler (headerOf sampler file) (length ws) (r .header) (sym words-long), held-range sampler ws words-held, size, file-again) refl
+      ∙ rw (header-accepted sampler (headerOf sampler file) (length ws) .1 (r .header, sym words-long), held-range sampler ws words-held, size, file-again) refl

@@ -3,6 +3,7 @@
 use mathlib.Core.Path.{_≡_, refl}
 use mathlib.Core.Bool.{Bool, true, false}
 use mathlib.Core.List.{List}
+use mathlib.Core.Logic.{_↔_}
 use Prim.Native.Nat.{ℕ, _≤_}
 use native.Mathlib.Omega.{arith}
 use lib.Dec.{ltb, eqb}
@@ -12,7 +13,7 @@ use borrow.Author.Tests.{le-ltb, ltb-false, eq-eqb, eqb-true}
 use Rattle.laws.specs.Truth.{pick, both, both-true}
 use Rattle.laws.specs.declared.Lowest.{Lowest}
 use Rattle.laws.specs.declared.Lowest.the-variants.{At, Nowhere}
-use Rattle.rows.specs.Rows.{rowsFault}
+use Rattle.rows.specs.Failing.{AllKept, faultless}
 use Rattle.headers.specs.Tables.{rowsOf}
 use Rattle.samples.specs.declared.Sampler.{Sampler}
 use Rattle.samples.specs.Samples.{headerSize, countOffset, tableOf, isWhole, countIn, fileSize, headerOf, headFault, fileFault, headerFault}
@@ -21,7 +22,7 @@ use Rattle.samples.specs.Samples.{headerSize, countOffset, tableOf, isWh
 pub record HeaderRules (sampler : Sampler) (header : List ℕ) : Type 0 where
   pub size : length header ≡ headerSize sampler
   pub whole : isWhole sampler (countIn sampler header) ≡ true
-  pub rows : rowsFault header 0 (rowsOf (tableOf sampler)) ≡ Nowhere
+  pub rows : AllKept header 0 (rowsOf (tableOf sampler))
 
 -- A file: its header, and the length that the number of words makes.
 pub record SampleRules (sampler : Sampler) (file : List ℕ) : Type 0 where
@@ -39,20 +40,20 @@ clean-in true place rest e = (refl, e)
 clean-in false place rest e = (cc, cc)
 
 head-rules : (sampler : Sampler) (header : List ℕ) (t : Bool) → headFault sampler header (both (isWhole sampler (countIn sampler header)) t) ≡ Nowhere
-    → (isWhole sampler (countIn sampler header) ≡ true) × (t ≡ true) × (rowsFault header 0 (rowsOf (tableOf sampler)) ≡ Nowhere)
+    → (isWhole sampler (countIn sampler header) ≡ true) × (t ≡ true) × AllKept header 0 (rowsOf (tableOf sampler))
 unfolding headFault
 head-rules sampler header t e =
     let c = clean-in (both (isWhole sampler (countIn sampler header)) t) (countOffset sampler) _ e in
     let b = both-true (isWhole sampler (countIn sampler header)) t (c .0) in
-    (b .0, b .1, c .1)
+    (b .0, b .1, faultless header 0 (rowsOf (tableOf sampler)) .0 (c .1))
 
 rules-head : (sampler : Sampler) (header : List ℕ) (t : Bool) → HeaderRules sampler header → t ≡ true → headFault sampler header (both (isWhole sampler (countIn sampler header)) t) ≡ Nowhere
 unfolding headFault
-rules-head sampler header t r e = rw (r .whole, e, headFault) (r .rows)
+rules-head sampler header t r e = rw (r .whole, e, headFault) (faultless header 0 (rowsOf (tableOf sampler)) .1 (r .rows))
 
--- ---- accepted is by the rules
+-- ---- a file, and a header for so many words
 
-pub file-rules : (sampler : Sampler) (file : List ℕ) → fileFault sampler file ≡ Nowhere → SampleRules sampler file
+file-rules : (sampler : Sampler) (file : List ℕ) → fileFault sampler file ≡ Nowhere → SampleRules sampler file
 unfolding fileFault
 file-rules sampler file e =
     let c = clean-past (ltb (length file) (headerSize sampler)) 0 _ e in
@@ -62,19 +63,27 @@ file-rules sampler file e =
       long = eqb-true _ _ (h .1);
     }
 
-pub rules-file : (sampler : Sampler) (file : List ℕ) → SampleRules sampler file → fileFault sampler file ≡ Nowhere
+rules-file : (sampler : Sampler) (file : List ℕ) → SampleRules sampler file → fileFault sampler file ≡ Nowhere
 unfolding fileFault
 rules-file sampler file r =
     let k : headerSize sampler ≤ length file = omega (arith, r .long) in
     rw (le-ltb (length file) (headerSize sampler) k, fileFault) (rules-head sampler (headerOf sampler file) _ (r .header) (eq-eqb _ _ (r .long)))
 
-pub header-rules : (sampler : Sampler) (header : List ℕ) (given : ℕ) → headerFault sampler header given ≡ Nowhere → HeaderRules sampler header × (countIn sampler header ≡ given)
+header-rules : (sampler : Sampler) (header : List ℕ) (given : ℕ) → headerFault sampler header given ≡ Nowhere → HeaderRules sampler header × (countIn sampler header ≡ given)
 unfolding headerFault
 header-rules sampler header given e =
     let c = clean-in (eqb (length header) (headerSize sampler)) 0 _ e in
     let h = head-rules sampler header _ (c .1) in
     (record { size = eqb-true _ _ (c .0); whole = h .0; rows = h .2 }, eqb-true _ _ (h .1))
 
-pub rules-header : (sampler : Sampler) (header : List ℕ) (given : ℕ) → HeaderRules sampler header → countIn sampler header ≡ given → headerFault sampler header given ≡ Nowhere
+rules-header : (sampler : Sampler) (header : List ℕ) (given : ℕ) → HeaderRules sampler header × (countIn sampler header ≡ given) → headerFault sampler header given ≡ Nowhere
 unfolding headerFault
-rules-header sampler header given r e = rw (eq-eqb _ _ (r .size), headerFault) (rules-head sampler header _ r (eq-eqb _ _ e))
+rules-header sampler header given r = rw (eq-eqb _ _ (r .0 .size), headerFault) (rules-head sampler header _ (r .0) (eq-eqb _ _ (r .1)))
+
+-- A file has no fault exactly where it keeps the rules, and a header for so many words exactly where it keeps its own and gives that number.
+pub file-accepted : (sampler : Sampler) (file : List ℕ) → (fileFault sampler file ≡ Nowhere) ↔ SampleRules sampler file
+file-accepted sampler file = (file-rules sampler file, rules-file sampler file)
+
+pub header-accepted : (sampler : Sampler) (header : List ℕ) (given : ℕ)
+    → (headerFault sampler header given ≡ Nowhere) ↔ (HeaderRules sampler header × (countIn sampler header ≡ given))
+header-accepted sampler header given = (header-rules sampler header given, rules-header sampler header given)

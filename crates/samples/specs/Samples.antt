@@ -15,6 +15,7 @@ use Rattle.laws.specs.declared.Lowest.{Lowest}
 use Rattle.laws.specs.declared.Lowest.the-variants.{At, Nowhere}
 use Rattle.blocks.specs.Numbers.{number, digits}
 use Rattle.rows.specs.Rows.{rowsFault}
+use Rattle.headers.specs.Tables as tables
 use Rattle.headers.specs.Tables.{rowsOf}
 use Rattle.headers.specs.declared.Table.{Table}
 use Rattle.headers.specs.declared.Table.the-variants.{Sample900, Sample1000}
@@ -27,19 +28,17 @@ use Rattle.samples.specs.declared.Sampler.the-variants.{S900, S1000}
 
 -- ---- the parts of a file
 
--- The bytes of the header, and the offset of the number of words in it.
+-- The table of the header's rules, its size, and the offset of the number of words in it.
+abbrev pub tableOf : Sampler → Table
+tableOf S900 = Sample900
+tableOf S1000 = Sample1000
+
 abbrev pub headerSize : Sampler → ℕ
-headerSize S900 = 60
-headerSize S1000 = 150
+headerSize sampler = tables.headerSize (tableOf sampler)
 
 abbrev pub countOffset : Sampler → ℕ
 countOffset S900 = 16
 countOffset S1000 = 26
-
--- The rules of the header's other bytes.
-abbrev pub tableOf : Sampler → Table
-tableOf S900 = Sample900
-tableOf S1000 = Sample1000
 
 -- The bytes of so many words.
 abbrev pub dataSize : Sampler → ℕ → ℕ

@@ -25,7 +25,7 @@ use Rattle.headers.specs.declared.Counted.the-variants.{Done, Refused}
 use Rattle.samples.specs.declared.Sampler.{Sampler}
 use Rattle.samples.specs.declared.Sampler.the-variants.{S900, S1000}
 use Rattle.samples.specs.Samples.{headerSize, countOffset, tableOf, dataSize, isWhole, countIn, fileSize, packed, unpacked, headerOf, wordsOf, headFault, fileFault, headerFault, isShort, isOutside, rangeFault, roomFault, Filled, filled, unless, unpackOf, packOf}
-use Rattle.samples.specs.Rules.{HeaderRules, file-rules, header-rules}
+use Rattle.samples.specs.Rules.{HeaderRules, file-accepted, header-accepted}
 
 -- the number of words lies inside the header
 pub count-inside : (sampler : Sampler) → countOffset sampler + 4 ≤ headerSize sampler
@@ -141,7 +141,7 @@ pub record Opened (sampler : Sampler) (file : List ℕ) (size : ℕ) : Type 0 wh
 
 -- the header is there
 pub opened-long : (sampler : Sampler) (file : List ℕ) {size : ℕ} → Opened sampler file size → size ≤ length file
-opened-long sampler file o = rw (o .size-is) (omega (arith, file-rules sampler file (o .fault) .long))
+opened-long sampler file o = rw (o .size-is) (omega (arith, file-accepted sampler file .0 (o .fault) .long))
 
 module _ (sampler : Sampler) (file : List ℕ) (words : List ℤ) {size count : ℕ} (o : Opened sampler file size) (n : count ≡ number 4 (bytes (take (size - 0) file)) (countOffset sampler)) where
   count-is : count ≡ countIn sampler (headerOf sampler file)
@@ -150,7 +150,7 @@ module _ (sampler : Sampler) (file : List ℕ) (words : List ℤ) {size count : 
   -- the data are there
   pub unpack-room : dataSize sampler count ≤ length (take (length file - size) (drop size file))
   unpack-room =
-      let e : length file ≡ size + dataSize sampler count = rw (count-is, o .size-is) (file-rules sampler file (o .fault) .long) in
+      let e : length file ≡ size + dataSize sampler count = rw (count-is, o .size-is) (file-accepted sampler file .0 (o .fault) .long) in
       rw (rest-all file size, length-drop size file) (omega arith)
 
   pub unpack-short : length words < count → filled (Refused 21 0) words ≡ unpackOf sampler file words
@@ -185,7 +185,7 @@ pub record Ready (sampler : Sampler) (header : List ℕ) (words : List ℤ) (siz
 
 module _ (sampler : Sampler) (header : List ℕ) (words : List ℤ) (out : List ℕ) {size count rest : ℕ} (r : Ready sampler header words size count rest) where
   rules : HeaderRules sampler header × (countIn sampler header ≡ length words)
-  rules = header-rules sampler header (length words) (r .fault)
+  rules = header-accepted sampler header (length words) .0 (r .fault)
 
   pub ready-header : length header ≡ size
   ready-header = rules .0 .size ∙ sym (r .size-is)

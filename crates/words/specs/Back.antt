@@ -2,13 +2,17 @@
 -- One law each for every size, by the half that the bits lie in. Assumes nothing.
 use mathlib.Core.Path.{_≡_, refl, ap, _∙_}
 use mathlib.Core.Bool.{Bool, true, false}
-use Prim.Native.Nat.{ℕ, _-_, _/_, _%_, _≤_, _<_}
-use native.Mathlib.Nat.{mod-eq-of-lt, mod-lt}
+use mathlib.Core.List.{List, [], _∷_, map}
+use Prim.Native.Nat.{ℕ, zero, suc, _-_, _/_, _%_, _≤_, _<_}
+use native.Mathlib.Nat.{zero-add, mod-eq-of-lt, mod-lt}
 use native.Mathlib.Omega.{arith}
 use lib.Dec.{ltb}
 use lib.IntN.{ℤ, pos, negsuc}
+use lib.ListN.{length, getD, length-map}
+use lib.Seq.{ext-getD}
 use borrow.Author.Tests.{lt-ltb, le-ltb, ltb-true, ltb-false}
-use Rattle.words.specs.Words.{bitsOf, wordOf, holds}
+use Rattle.laws.specs.Reader.{tab, length-tab, getD-tab}
+use Rattle.words.specs.Words.{bitsOf, wordOf, holds, bitsAt}
 
 word-low : (size bits : ℕ) → bits < size / 2 → wordOf size bits ≡ pos bits
 unfolding wordOf
@@ -51,3 +55,29 @@ module _ (size bits : ℕ) (even : size % 2 ≡ 0) (h : bits < size) where
       by-half (λ w. holds size w ≡ true)
       (λ k. lt-ltb bits (size / 2) k)
       (λ k. lt-ltb (size - 1 - bits) (size / 2) (omega arith))
+
+-- ---- lists of words
+
+getD-map-in : (g : ℕ → ℤ) (l : List ℕ) (i : ℕ) → i < length l → getD (map g l) i (pos 0) ≡ g (getD l i 0)
+getD-map-in g [] i h = absurd (omega arith)
+getD-map-in g (x ∷ l) zero h = refl
+getD-map-in g (x ∷ l) (suc i) h = getD-map-in g l i (omega arith)
+
+-- words that bits hold, from their bits
+pub words-again : (size : ℕ) (words : List ℤ) → ((i : ℕ) → i < length words → holds size (getD words i (pos 0)) ≡ true) → map (wordOf size) (tab (bitsAt size words) 0 (length words)) ≡ words
+words-again size words held =
+    let n = length words in
+    let t = tab (bitsAt size words) 0 n in
+    let e : length (map (wordOf size) t) ≡ n = length-map t (wordOf size) ∙ length-tab (bitsAt size words) 0 n in
+    ext-getD (pos 0) (map (wordOf size) t) words e
+    (λ i h.
+    let k : i < n = omega arith in
+    getD-map-in (wordOf size) t i (omega (arith, length-tab (bitsAt size words) 0 n))
+    ∙ ap (wordOf size) (getD-tab (bitsAt size words) 0 n i k ∙ ap (bitsAt size words) (zero-add i)) ∙ word-bits size (getD words i (pos 0)) (held i k))
+
+-- the bits of words that were made of bits
+pub bits-again : (size : ℕ) (l : List ℕ) (i : ℕ) → size % 2 ≡ 0 → i < length l → getD l i 0 < size → bitsAt size (map (wordOf size) l) i ≡ getD l i 0
+bits-again size l i even h k = ap (bitsOf size) (getD-map-in (wordOf size) l i h) ∙ bits-word size (getD l i 0) even k
+
+pub held-again : (size : ℕ) (l : List ℕ) (i : ℕ) → size % 2 ≡ 0 → i < length l → getD l i 0 < size → holds size (getD (map (wordOf size) l) i (pos 0)) ≡ true
+held-again size l i even h k = ap (holds size) (getD-map-in (wordOf size) l i h) ∙ word-held size (getD l i 0) even k

@@ -3,12 +3,12 @@
 use mathlib.Core.Path.{_≡_, refl, sym, ap, _∙_}
 use mathlib.Core.List.{List, [], _∷_, _++_, map}
 use Prim.Native.Nat.{ℕ, zero, suc, _+_, _-_, _*_, _≤_, _<_}
-use native.Mathlib.Nat.{add-suc, suc-add, add-zero, sub-zero, mul-zero, mul-suc, add-assoc, add-comm}
+use native.Mathlib.Nat.{zero-add, add-zero, add-suc, suc-add, sub-zero, mul-zero, mul-suc, add-assoc, add-comm}
 use native.Mathlib.Numerals.{add-one}
 use native.Mathlib.Omega.{arith}
-use lib.ListN.{length, set, length-append}
-use lib.Seq.{sets, length-sets}
-use Rattle.laws.specs.Scan.{over, over-end, over-next}
+use lib.ListN.{length, getD, set, length-append, List·getD-append}
+use lib.Seq.{sets, length-sets, getD-append-add}
+use Rattle.laws.specs.Scan.{over, over-end, over-next, over-cong}
 use Rattle.laws.specs.Reader.{tab}
 
 -- the parts of the n numbers from i on, one after another
@@ -30,6 +30,48 @@ pub length-parts : {A : Type 0} (f : ℕ → List A) (size : ℕ) → ((k : ℕ)
 unfolding parts
 length-parts f size h i zero = sym (mul-zero size)
 length-parts f size h i (suc n) = length-append (f i) (parts f (suc i) n) ∙ rw (h i, length-parts f size h (suc i) n, mul-suc size n) (add-comm size (size * n))
+
+-- an element of a part
+pub getD-parts : (f : ℕ → List ℕ) (size : ℕ) → ((k : ℕ) → length (f k) ≡ size) → (i n k j : ℕ) → k < n → j < size → getD (parts f i n) (size * k + j) 0 ≡ getD (f (i + k)) j 0
+unfolding parts
+getD-parts f size each i zero k j h l = absurd (omega arith)
+getD-parts f size each i (suc n) zero j h l =
+    rw (mul-zero size, zero-add j, add-zero i) (List·getD-append (f i) (parts f (suc i) n) 0 j (omega (arith, each i)))
+getD-parts f size each i (suc n) (suc k) j h l =
+    let e : size * suc k + j ≡ length (f i) + (size * k + j) = rw (mul-suc size k, each i) (omega arith) in
+    ap (λ (m : ℕ). getD (f i ++ parts f (suc i) n) m 0) e ∙ getD-append-add (f i) (parts f (suc i) n) (size * k + j) 0
+    ∙ getD-parts f size each (suc i) n k j (omega arith) l ∙ ap (λ (m : ℕ). getD (f m) j 0) (suc-add i k ∙ sym (add-suc i k))
+
+pub parts-cong : (f g : ℕ → List ℕ) (n : ℕ) → ((k : ℕ) → k < n → f k ≡ g k) → parts f 0 n ≡ parts g 0 n
+unfolding parts
+parts-cong f g n h = over-cong _ _ [] 0 n (λ k p q r. ap (λ (x : List ℕ). x ++ r) (h k (omega arith)))
+
+-- pairs one after another
+pub parts-pairs : (f : ℕ → ℕ) (i n : ℕ) → parts (λ k. f (2 * k) ∷ f (2 * k + 1) ∷ []) i n ≡ tab f (2 * i) (2 * n)
+unfolding parts tab
+parts-pairs f i zero = refl
+parts-pairs f i (suc n) =
+    let e : 2 * suc n ≡ suc (suc (2 * n)) = omega arith in
+    let d : 2 * suc i ≡ suc (suc (2 * i)) = omega arith in
+    rw (e, add-one (2 * i), parts-pairs f (suc i) n, d) refl
+
+-- two tables, the second where the first ends
+tab-shift : (f : ℕ → ℕ) (a i n : ℕ) → tab (λ k. f (a + k)) i n ≡ tab f (a + i) n
+unfolding tab
+tab-shift f a i zero = refl
+tab-shift f a i (suc n) = ap (λ (r : List ℕ). f (a + i) ∷ r) (tab-shift f a (suc i) n ∙ ap (λ (k : ℕ). tab f k n) (add-suc a i))
+
+tab-joined : (f : ℕ → ℕ) (i a n : ℕ) → tab f i a ++ tab f (i + a) n ≡ tab f i (a + n)
+unfolding tab
+tab-joined f i zero n = rw (add-zero i, zero-add n) refl
+tab-joined f i (suc a) n = rw (suc-add a n, add-suc i a, ← suc-add i a) (ap (λ (r : List ℕ). f i ∷ r) (tab-joined f (suc i) a n))
+
+pub tab-append : (f : ℕ → ℕ) (a n : ℕ) → tab f 0 a ++ tab (λ k. f (a + k)) 0 n ≡ tab f 0 (a + n)
+tab-append f a n =
+    let e : a + 0 ≡ 0 + a = omega arith in
+    ap (λ (r : List ℕ). tab f 0 a ++ r) (tab-shift f a 0 n ∙ ap (λ (k : ℕ). tab f k n) e) ∙ tab-joined f 0 a n
+
+-- ---- loops that write parts
 
 module _ {A : Type 0} where
   -- a write that goes on where another ends

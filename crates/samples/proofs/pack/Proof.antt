@@ -6,7 +6,7 @@ use borrow.Author.Needs.{needs}
 use lib.ListN.{length}
 use Rattle.laws.specs.Splice.{part, length-splice}
 use Rattle.samples.specs.Steps.{pack-refused, pack-outside, Ready, ready-header, ready-rest, pack-short, pack-done}
-use Rattle.samples.specs.Rules.{header-rules}
+use Rattle.samples.specs.Rules.{header-accepted}
 use Rattle.samples.proofs.pack.Statement.{statement}
 use Rattle.samples.proofs.pack.Tie as tie
 
@@ -54,7 +54,7 @@ header-size-requires : tie.Need-header-size-requires
 header-size-requires c κs = search needs
 
 count-in-requires : tie.Need-count-in-requires
-count-in-requires c κs = header-rules _ _ _ (sym (c .before .before .before .before .before .before .header-fault .ensures) ∙ c .before .before .before .before .enum-told .given .1) .0 .size
+count-in-requires c κs = header-accepted _ _ _ .0 (sym (c .before .before .before .before .before .before .header-fault .ensures) ∙ c .before .before .before .before .enum-told .given .1) .0 .size
 
 data-size-requires : tie.Need-data-size-requires
 data-size-requires c κs = search needs
