@@ -1,8 +1,9 @@
--- Unpacking and packing undo each other: for every accepted input, and in terms of what the two calls promise.
+-- What the two calls promise, as a client sees it: which inputs are accepted, and that unpacking and packing undo each other.
 -- An accepted call's refusals are all past; then the rules and the data's own way back. Assumes nothing.
 use mathlib.Core.Path.{_≡_, refl, sym, ap, _∙_}
 use mathlib.Core.Bool.{Bool, true, false, not, Bool·not-not}
 use mathlib.Core.List.{List, _++_}
+use mathlib.Core.Logic.{_↔_}
 use Prim.Native.Nat.{ℕ, _+_, _≤_}
 use native.Mathlib.Omega.{arith}
 use lib.IntN.{ℤ, pos}
@@ -21,6 +22,7 @@ use Rattle.samples.specs.declared.Sampler.{Sampler}
 use Rattle.samples.specs.declared.Sampler.the-variants.{S900, S1000}
 use Rattle.samples.specs.Samples.{headerSize, dataSize, isWhole, countIn, fileSize, packed, headerOf, wordsOf, fileFault, headerFault, isOutside, rangeFault, roomFault, Filled, filled, unless, unpackOf, packOf}
 use Rattle.samples.specs.Rules.{HeaderRules, SampleRules, file-accepted, header-accepted}
+use Rattle.samples.specs.Steps.{enough-room}
 use Rattle.samples.specs.Back.{Held, Bytes, length-packed, unpacked-packed, length-unpacked, held-unpacked, packed-unpacked}
 
 -- Every element is a word of 16 bits.
@@ -80,9 +82,8 @@ module _ (sampler : Sampler) (header : List ℕ) (words : List ℤ) (rules : Hea
   pub packed-words : Held sampler words → wordsOf sampler (header ++ packed sampler words) ≡ words
   packed-words held = rw (packed-header, count, drop-at header (packed sampler words) (headerSize sampler) (rules .size)) (unpacked-packed sampler words whole held)
 
--- ---- unpacking what was packed
+-- ---- a pack that is done
 
--- what a pack that is done says
 record Packed (sampler : Sampler) (header : List ℕ) (words : List ℤ) (out : List ℕ) (size : ℕ) : Type 0 where
   pub fault : headerFault sampler header (length words) ≡ Nowhere
   pub range : rangeFault sampler words ≡ Nowhere
@@ -103,6 +104,32 @@ pack-done sampler header words out size e =
       room = room-enough (length out) _ (c .0);
       output = ap (λ (f : Filled ℕ). f .output) (a .1 ∙ b .1 ∙ c .1);
     }
+
+-- A header and words to pack: the header keeps its rules and gives their number, the sampler's bits hold each, and the output has room for the file.
+pub record PackRules (sampler : Sampler) (header : List ℕ) (words : List ℤ) (out : List ℕ) : Type 0 where
+  pub rules : HeaderRules sampler header
+  pub count : countIn sampler header ≡ length words
+  pub held : Held sampler words
+  pub room : fileSize sampler (length words) ≤ length out
+
+pack-rules : (sampler : Sampler) (header : List ℕ) (words : List ℤ) (out : List ℕ) (size : ℕ) → Words words → packOf sampler header words out .answer ≡ Done size → PackRules sampler header words out
+pack-rules sampler header words out size w e =
+    let p = pack-done sampler header words out size e in
+    let r = header-accepted sampler header (length words) .0 (p .fault) in
+    record { rules = r .0; count = r .1; held = range-held sampler words w (p .range); room = p .room }
+
+rules-pack : (sampler : Sampler) (header : List ℕ) (words : List ℤ) (out : List ℕ) → PackRules sampler header words out
+    → packOf sampler header words out .answer ≡ Done (fileSize sampler (length words))
+unfolding packOf
+rules-pack sampler header words out r =
+    rw (header-accepted sampler header (length words) .1 (r .rules, r .count), held-range sampler words (r .held), enough-room (length out) (fileSize sampler (length words)) (r .room)) refl
+
+-- Packing is accepted exactly by these rules.
+pub pack-accepted : (sampler : Sampler) (header : List ℕ) (words : List ℤ) (out : List ℕ) → Words words
+    → (packOf sampler header words out .answer ≡ Done (fileSize sampler (length words))) ↔ PackRules sampler header words out
+pack-accepted sampler header words out w = (pack-rules sampler header words out (fileSize sampler (length words)) w, rules-pack sampler header words out)
+
+-- ---- unpacking what was packed
 
 -- what was written from index 0 on
 take-splice : (l v : List ℕ) (n : ℕ) → length v ≡ n → n ≤ length l → take n (splice l 0 v) ≡ v
@@ -139,9 +166,8 @@ module _ (sampler : Sampler) (header : List ℕ) (words : List ℤ) (out : List 
       ap (λ (f : List ℕ). unpackOf sampler f into) packed-file
       ∙ rw (file-accepted sampler file .1 r, packed-words sampler header words (rules .0) (rules .1) held, n) refl
 
--- ---- packing what was unpacked
+-- ---- an unpack that is done
 
--- what an unpack that is done says
 record Unpacked (sampler : Sampler) (file : List ℕ) (words : List ℤ) (count : ℕ) : Type 0 where
   pub fault : fileFault sampler file ≡ Nowhere
   pub count-is : countIn sampler (headerOf sampler file) ≡ count
@@ -159,6 +185,22 @@ unpack-done sampler file words count e =
       room = room-enough (length words) _ (b .0);
       output = ap (λ (f : Filled ℤ). f .output) (a .1 ∙ b .1);
     }
+
+unpack-rules : (sampler : Sampler) (file : List ℕ) (words : List ℤ) (count : ℕ) → unpackOf sampler file words .answer ≡ Done count
+    → SampleRules sampler file × (countIn sampler (headerOf sampler file) ≤ length words)
+unpack-rules sampler file words count e = let u = unpack-done sampler file words count e in (file-accepted sampler file .0 (u .fault), u .room)
+
+rules-unpack : (sampler : Sampler) (file : List ℕ) (words : List ℤ) → SampleRules sampler file × (countIn sampler (headerOf sampler file) ≤ length words)
+    → unpackOf sampler file words .answer ≡ Done (countIn sampler (headerOf sampler file))
+unfolding unpackOf
+rules-unpack sampler file words r = rw (file-accepted sampler file .1 (r .0), enough-room (length words) (countIn sampler (headerOf sampler file)) (r .1)) refl
+
+-- Unpacking is accepted exactly where the file keeps its rules and the output has room for its words.
+pub unpack-accepted : (sampler : Sampler) (file : List ℕ) (words : List ℤ)
+    → (unpackOf sampler file words .answer ≡ Done (countIn sampler (headerOf sampler file))) ↔ (SampleRules sampler file × (countIn sampler (headerOf sampler file) ≤ length words))
+unpack-accepted sampler file words = (unpack-rules sampler file words (countIn sampler (headerOf sampler file)), rules-unpack sampler file words)
+
+-- ---- packing what was unpacked
 
 module _ (sampler : Sampler) (file : List ℕ) (words : List ℤ) (count : ℕ) (small : Bytes file) (e : unpackOf sampler file words .answer ≡ Done count) where
   u : Unpacked sampler file words count

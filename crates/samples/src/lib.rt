@@ -24,7 +24,7 @@ pub enum Sampler {
 
 // ---- unpacking
 
-// A word of the first half: its own byte has the upper eight bits, the shared byte the lower four above those of the second half's word.
+// A word of the first half, and one of the second: its own byte has the upper eight bits, the byte that both share the lower four.
 fn first_word(own: u8, shared: u8) -> i16
     ensures { λ r. ⌜ r ≡ wordOf 4096 (16 * own + shared / 16) ⌝ }
 {
@@ -37,7 +37,7 @@ fn second_word(own: u8, shared: u8) -> i16
     words::word12(16 * (own as u16) + (shared as u16) % 16)
 }
 
-// Fills the first half of the words of S900 data, and the second.
+// Fills the first half of the words of S900 data, the second half, and both. Two plain loops are faster than one that asks for the half.
 fn fill_first(source: &[u8], half: usize, words: &mut [i16])
     requires { ⌜ (2 * half ≤ length (now source)) × (half ≤ length (now words)) ⌝ }
     ensures { λ _. ⌜ now (words .exit) ≡ sets (now (words .entry)) 0 (map (wordOf 4096) (tab (firstBits (bytes (now (source .entry)))) 0 half)) ⌝ }
@@ -70,6 +70,7 @@ fn fill900(source: &[u8], count: usize, words: &mut [i16])
     fill_second(source, count / 2, words);
 }
 
+// Fills the words of S1000 data, two bytes each.
 fn fill1000(source: &[u8], count: usize, words: &mut [i16])
     requires { ⌜ (2 * count ≤ length (now source)) × (count ≤ length (now words)) ⌝ }
     ensures { λ _. ⌜ now (words .exit) ≡ sets (now (words .entry)) 0 (unpacked1000 (bytes (now (source .entry))) count) ⌝ }
@@ -97,7 +98,7 @@ fn high_byte(word: i16) -> u8
     (words::bits12(word) / 16) as u8
 }
 
-// Stores the pairs of bytes of S900 data from an offset on, and the upper bytes of the second half.
+// Stores the pairs of bytes of S900 data from an offset on, the upper bytes of the second half, and both one after the other.
 fn store_pairs(words: &[i16], half: usize, out: &mut [u8], at: usize)
     requires { ⌜ (2 * half ≤ length (now words)) × (at + 2 * half ≤ length (now out)) ⌝ }
     ensures { λ _. ⌜ now (out .exit) ≡ splice (now (out .entry)) at (parts (pairAt (now (words .entry)) half) 0 half) ⌝ }
@@ -130,6 +131,7 @@ fn store900(words: &[i16], out: &mut [u8], at: usize)
     store_uppers(words, half, out, at + 2 * half);
 }
 
+// Stores S1000 data from an offset on, two bytes a word.
 fn store1000(words: &[i16], out: &mut [u8], at: usize)
     requires { ⌜ at + 2 * length (now words) ≤ length (now out) ⌝ }
     ensures { λ _. ⌜ now (out .exit) ≡ splice (now (out .entry)) at (packed1000 (now (words .entry))) ⌝ }
@@ -144,6 +146,7 @@ fn store1000(words: &[i16], out: &mut [u8], at: usize)
 
 // ---- by the sampler
 
+// The size of a header, where in it the number of words stands, and the table of its rules.
 fn header_size(sampler: Sampler) -> usize
     ensures { λ r. ⌜ (r ≡ headerSize sampler) × (r ≤ 150) ⌝ }
 {
@@ -171,6 +174,7 @@ fn table_of(sampler: Sampler) -> Table
     }
 }
 
+// The bytes of so many words, exact for every number that four bytes give, and whether the sampler has that many.
 fn data_size(sampler: Sampler, count: usize) -> usize
     requires { ⌜ count < 4294967296 ⌝ }
     ensures { λ r. ⌜ (r ≡ dataSize sampler count) × (r < 8589934592) ⌝ }
@@ -232,6 +236,7 @@ fn is_right(sampler: Sampler, count: usize, there: usize, due: usize) -> bool
     false
 }
 
+// Where refusal 18 finds a fault: in a header whose number of words is right or not, in a file, and in a header to pack.
 fn head_fault(sampler: Sampler, header: &[u8], right: bool) -> Lowest
     ensures { λ r. ⌜ r ≡ headFault sampler (now (header .entry)) right ⌝ }
 {
@@ -297,6 +302,7 @@ fn lowest_outside(words: &[i16]) -> Lowest
     Lowest::Nowhere
 }
 
+// Where refusal 19 finds a fault.
 fn range_fault(sampler: Sampler, words: &[i16]) -> Lowest
     ensures { λ r. ⌜ r ≡ rangeFault sampler (now (words .entry)) ⌝ }
 {
