@@ -1,0 +1,208 @@
+//! The check: an image taken apart by document 01's rules, 1 to 9 in their order.
+
+use crate::layout::{BLOCK, Density, Kind, Layout, MAP_AT, SLOT_BYTES, SLOTS, SYSTEM, blocks_for};
+use crate::names::{is_type, name_of};
+use crate::{Answer, number, refuse};
+
+/// A file: what its slot says, and its blocks.
+#[derive(Clone, Debug, PartialEq, Eq)]
+pub struct File {
+    /// The name in ASCII.
+    pub name: Vec<u8>,
+    /// The type byte.
+    pub file_type: u8,
+    /// Bytes of its content.
+    pub length: usize,
+    /// Its blocks in order.
+    pub chain: Vec<usize>,
+}
+
+/// An accepted disk.
+#[derive(Clone, Debug, PartialEq, Eq)]
+pub struct Disk {
+    /// Kind and density.
+    pub layout: Layout,
+    /// The map's values, one for each block.
+    pub map: Vec<usize>,
+    /// A file for each slot, or none.
+    pub files: Vec<Option<File>>,
+}
+
+impl Disk {
+    /// The data blocks that hold 0 in the map, rising.
+    pub fn free(&self) -> Vec<usize> {
+        (self.layout.first()..self.layout.blocks()).filter(|&block| self.map[block] == 0).collect()
+    }
+
+    /// The file in a slot, if there is such a slot and it holds one.
+    pub fn file(&self, slot: usize) -> Option<&File> {
+        self.files.get(slot)?.as_ref()
+    }
+
+    /// The slot of the file with a name in ASCII.
+    pub fn slot_of(&self, name: &[u8]) -> Option<usize> {
+        (0..SLOTS).find(|&slot| self.file(slot).is_some_and(|file| file.name == name))
+    }
+}
+
+/// A file's content: the first bytes of its blocks in order.
+pub fn content(image: &[u8], file: &File) -> Vec<u8> {
+    let mut content: Vec<u8> =
+        file.chain.iter().flat_map(|block| &image[block * BLOCK..][..BLOCK]).copied().collect();
+    content.truncate(file.length);
+    content
+}
+
+/// Takes an image apart, or refuses it by 1 to 9.
+pub fn read(image: &[u8]) -> Answer<Disk> {
+    let Some(density) = density_of(image.len()) else { return refuse(1, 0) };
+    let Some(kind) = kind_of(image) else { return refuse(2, 0) };
+    let layout = Layout { kind, density };
+    let map: Vec<usize> =
+        (0..layout.blocks()).map(|block| number(&image[MAP_AT + 2 * block..][..2])).collect();
+    system_values(layout, &map)?;
+    let slots: Vec<Slot> = (0..SLOTS).map(|slot| slot_at(image, slot)).collect();
+    let names = names(kind, &slots)?;
+    names_differ(&names)?;
+    let chains = chains(layout, &map, &slots)?;
+    chains_apart(layout, &chains)?;
+    no_stray(layout, &map, &chains)?;
+    Ok(Disk { layout, map, files: files(&slots, names, chains) })
+}
+
+fn density_of(length: usize) -> Option<Density> {
+    match length {
+        819_200 => Some(Density::Low),
+        1_638_400 => Some(Density::High),
+        _ => None,
+    }
+}
+
+/// Empty slots count too: all 64 identities decide.
+fn kind_of(image: &[u8]) -> Option<Kind> {
+    let all = |identity: [u8; 2]| (0..SLOTS).all(|slot| image[SLOT_BYTES * slot + 22..][..2] == identity);
+    if all([0, 0]) {
+        Some(Kind::S900)
+    } else if all([0, 3]) {
+        Some(Kind::S1000)
+    } else {
+        None
+    }
+}
+
+/// 3: the lowest system block of an S1000 disk with another value.
+fn system_values(layout: Layout, map: &[usize]) -> Answer<()> {
+    match (0..layout.first()).find(|&block| map[block] != SYSTEM) {
+        Some(block) if layout.kind == Kind::S1000 => refuse(3, block),
+        _ => Ok(()),
+    }
+}
+
+/// A slot as its bytes say.
+struct Slot<'a> {
+    area: &'a [u8],
+    file_type: u8,
+    length: usize,
+    start: usize,
+}
+
+impl Slot<'_> {
+    fn is_used(&self) -> bool {
+        self.file_type != 0
+    }
+}
+
+fn slot_at(image: &[u8], slot: usize) -> Slot<'_> {
+    let bytes = &image[SLOT_BYTES * slot..][..SLOT_BYTES];
+    Slot {
+        area: &bytes[0..16],
+        file_type: bytes[16],
+        length: number(&bytes[17..20]),
+        start: number(&bytes[20..22]),
+    }
+}
+
+/// The used slots' names in ASCII, or 4: the lowest malformed slot.
+fn names(kind: Kind, slots: &[Slot]) -> Answer<Vec<Option<Vec<u8>>>> {
+    let mut names = Vec::new();
+    for (at, slot) in slots.iter().enumerate() {
+        if !slot.is_used() {
+            names.push(None);
+            continue;
+        }
+        match name_of(kind, slot.area) {
+            Some(name) if is_type(kind, slot.file_type) && slot.length >= 1 => names.push(Some(name)),
+            _ => return refuse(4, at),
+        }
+    }
+    Ok(names)
+}
+
+/// 5: the lowest slot whose name stands in a lower one.
+fn names_differ(names: &[Option<Vec<u8>>]) -> Answer<()> {
+    match (0..SLOTS).find(|&slot| names[slot].is_some() && names[..slot].contains(&names[slot])) {
+        Some(slot) => refuse(5, slot),
+        None => Ok(()),
+    }
+}
+
+/// Each slot's chain, empty for an empty slot, or 6 or 7: the lowest faulty slot.
+fn chains(layout: Layout, map: &[usize], slots: &[Slot]) -> Answer<Vec<Vec<usize>>> {
+    let mut chains = Vec::new();
+    for (at, slot) in slots.iter().enumerate() {
+        let walked = if slot.is_used() { walk(layout, map, slot) } else { Ok(Vec::new()) };
+        match walked {
+            Ok(chain) => chains.push(chain),
+            Err(number) => return refuse(number, at),
+        }
+    }
+    Ok(chains)
+}
+
+/// A used slot's chain, or the number of its first fault.
+fn walk(layout: Layout, map: &[usize], slot: &Slot) -> Result<Vec<usize>, u32> {
+    if !layout.is_link(slot.start) {
+        return Err(6);
+    }
+    let mut chain = vec![slot.start];
+    for _ in 1..blocks_for(slot.length) {
+        let value = map[chain[chain.len() - 1]];
+        if value == layout.end_mark() {
+            return Err(7);
+        }
+        if !layout.is_link(value) {
+            return Err(6);
+        }
+        chain.push(value);
+    }
+    if map[chain[chain.len() - 1]] == layout.end_mark() { Ok(chain) } else { Err(7) }
+}
+
+/// 8: the lowest slot whose chain has a block of a lower slot's.
+fn chains_apart(layout: Layout, chains: &[Vec<usize>]) -> Answer<()> {
+    let mut taken = vec![false; layout.blocks()];
+    for (slot, chain) in chains.iter().enumerate() {
+        if chain.iter().any(|&block| taken[block]) {
+            return refuse(8, slot);
+        }
+        chain.iter().for_each(|&block| taken[block] = true);
+    }
+    Ok(())
+}
+
+/// 9: the lowest data block that isn't free and on no chain.
+fn no_stray(layout: Layout, map: &[usize], chains: &[Vec<usize>]) -> Answer<()> {
+    let mut on_chain = vec![false; layout.blocks()];
+    chains.iter().flatten().for_each(|&block| on_chain[block] = true);
+    match (layout.first()..layout.blocks()).find(|&block| map[block] != 0 && !on_chain[block]) {
+        Some(block) => refuse(9, block),
+        None => Ok(()),
+    }
+}
+
+fn files(slots: &[Slot], names: Vec<Option<Vec<u8>>>, chains: Vec<Vec<usize>>) -> Vec<Option<File>> {
+    let file = |((slot, name), chain): ((&Slot, Option<Vec<u8>>), Vec<usize>)| {
+        name.map(|name| File { name, file_type: slot.file_type, length: slot.length, chain })
+    };
+    slots.iter().zip(names).zip(chains).map(file).collect()
+}

@@ -1,0 +1,128 @@
+//! Valid disks for tests: scattered, near full, with a full directory.
+
+use crate::calls::{link, set_map, write_slot};
+use crate::disk::File;
+use crate::layout::{BLOCK, Kind, Layout, SLOT_BYTES, SLOTS, SYSTEM};
+use crate::names::{area_of, name_length};
+use crate::random::Random;
+
+/// How full a disk is to be.
+#[derive(Clone, Copy, Debug, PartialEq, Eq)]
+pub struct Plan {
+    /// Used slots.
+    pub files: usize,
+    /// Free blocks, unless there are no files to use the others.
+    pub free: usize,
+}
+
+impl Plan {
+    /// Some files, some room.
+    pub fn scattered(layout: Layout, random: &mut Random) -> Plan {
+        let files = random.below(40);
+        Plan { files, free: random.within(0, layout.data_blocks() - files) }
+    }
+
+    /// Next to no room.
+    pub fn near_full(random: &mut Random) -> Plan {
+        Plan { files: random.within(1, 62), free: random.below(6) }
+    }
+
+    /// No slot left, or one or two.
+    pub fn full_directory(random: &mut Random) -> Plan {
+        Plan { files: SLOTS - random.pick(&[0, 0, 1, 2]), free: random.within(20, 600) }
+    }
+}
+
+/// A disk without files. All that no rule reads is noise: data, volume label, empty slots, an S900's system values.
+pub fn blank(layout: Layout, random: &mut Random) -> Vec<u8> {
+    let mut image = random.bytes(layout.image_bytes());
+    for slot in 0..SLOTS {
+        if random.one_in(2) {
+            image[SLOT_BYTES * slot..][..22].fill(0);
+        }
+        image[SLOT_BYTES * slot + 16] = 0;
+        image[SLOT_BYTES * slot + 22..][..2].copy_from_slice(&layout.identity());
+    }
+    for block in 0..layout.blocks() {
+        if layout.is_link(block) {
+            set_map(&mut image, block, 0);
+        } else if layout.kind == Kind::S1000 {
+            set_map(&mut image, block, SYSTEM);
+        }
+    }
+    image
+}
+
+/// A valid disk after a plan: files in any slots, chains over any blocks.
+pub fn disk(layout: Layout, plan: Plan, random: &mut Random) -> Vec<u8> {
+    let mut image = blank(layout, random);
+    let mut slots: Vec<usize> = (0..SLOTS).collect();
+    let mut blocks: Vec<usize> = (layout.first()..layout.blocks()).collect();
+    random.shuffle(&mut slots);
+    if !random.one_in(4) {
+        random.shuffle(&mut blocks);
+    }
+    let mut names: Vec<Vec<u8>> = Vec::new();
+    let used = layout.data_blocks().saturating_sub(plan.free).max(plan.files);
+    for (at, count) in parts(used, plan.files, random).into_iter().enumerate() {
+        let rest = blocks.split_off(count);
+        let mut name = legal_name(layout.kind, random);
+        while names.contains(&name) {
+            name = legal_name(layout.kind, random);
+        }
+        let last = random.pick(&[1, 2, 1023, 1024, 0]);
+        let last = if last == 0 { random.within(1, BLOCK) } else { last };
+        let file = File {
+            name,
+            file_type: legal_type(layout.kind, random),
+            length: BLOCK * (count - 1) + last,
+            chain: blocks,
+        };
+        add(&mut image, layout, slots[at], &file);
+        names.push(file.name);
+        blocks = rest;
+    }
+    image
+}
+
+/// Writes a file's slot and chain; its content is what its blocks hold.
+pub fn add(image: &mut [u8], layout: Layout, slot: usize, file: &File) {
+    let area = area_of(layout.kind, &file.name).expect("a maker's name is legal");
+    write_slot(image, slot, &area, file.file_type, file.length, file.chain[0]);
+    link(image, layout, &file.chain);
+}
+
+/// A total cut into so many parts of at least 1.
+fn parts(total: usize, count: usize, random: &mut Random) -> Vec<usize> {
+    let mut cuts: Vec<usize> = (1..total).collect();
+    random.shuffle(&mut cuts);
+    cuts.truncate(count.saturating_sub(1));
+    cuts.sort_unstable();
+    cuts.insert(0, 0);
+    cuts.push(total);
+    let parts = cuts.windows(2).map(|pair| pair[1] - pair[0]);
+    if count == 0 { Vec::new() } else { parts.collect() }
+}
+
+/// A legal name in ASCII; half of them differ from others in few characters.
+pub fn legal_name(kind: Kind, random: &mut Random) -> Vec<u8> {
+    let all: &[u8] = match kind {
+        Kind::S900 => b" ~!09AZaz#+-.@",
+        Kind::S1000 => b"0129 ABXYZ#+-.",
+    };
+    let mut name = vec![b' '; name_length(kind)];
+    if random.one_in(2) {
+        let at = random.below(name.len());
+        name[at] = random.pick(all);
+        name[0] = b'A' + random.below(26) as u8;
+    } else {
+        name.iter_mut().for_each(|byte| *byte = random.pick(all));
+    }
+    name
+}
+
+/// A legal type.
+pub fn legal_type(kind: Kind, random: &mut Random) -> u8 {
+    let first = if kind == Kind::S900 { b'A' } else { b'a' };
+    first + random.below(26) as u8
+}

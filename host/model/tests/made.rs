@@ -1,0 +1,123 @@
+//! What the maker makes: disks that are accepted, and faults that are refused as they say. And the calls on
+//! bytes against the plain record.
+
+use model::calls;
+use model::disk::read;
+use model::faults::{FAULTS, spoil};
+use model::files;
+use model::layout::{Kind, LAYOUTS};
+use model::maker::{self, Plan};
+use model::random::Random;
+use model::record::Record;
+use model::{Refusal, program, samples};
+
+fn plans(random: &mut Random) -> Vec<(usize, Plan)> {
+    let scattered = |at: usize, random: &mut Random| (at, Plan::scattered(LAYOUTS[at], random));
+    let mut plans: Vec<(usize, Plan)> = (0..4).map(|at| scattered(at, random)).collect();
+    plans.extend((0..4).map(|at| (at, Plan::near_full(random))));
+    plans.extend((0..4).map(|at| (at, Plan::full_directory(random))));
+    plans
+}
+
+#[test]
+fn disks_are_accepted() {
+    let mut random = Random::new(1);
+    for (at, plan) in (0..10).flat_map(|_| plans(&mut random)).collect::<Vec<_>>() {
+        let checked = calls::check(&maker::disk(LAYOUTS[at], plan, &mut random)).expect("accepted");
+        let free = if plan.files == 0 { LAYOUTS[at].data_blocks() } else { plan.free };
+        assert_eq!((checked.layout, checked.files, checked.free), (LAYOUTS[at], plan.files, free));
+    }
+}
+
+#[test]
+fn faults_are_refused() {
+    let mut random = Random::new(2);
+    let mut met = vec![0; FAULTS.len()];
+    for (at, plan) in (0..20).flat_map(|_| plans(&mut random)).collect::<Vec<_>>() {
+        let good = maker::disk(LAYOUTS[at], plan, &mut random);
+        for (which, &fault) in FAULTS.iter().enumerate() {
+            let mut image = good.clone();
+            if let Some(refusal) = spoil(&mut image, fault, &mut random) {
+                assert_eq!(calls::check(&image), Err(refusal), "{fault:?}");
+                met[which] += 1;
+            }
+        }
+    }
+    assert!(met.iter().all(|&times| times > 20), "{met:?}");
+}
+
+/// One call on bytes and record alike; the page's output too.
+fn step(image: &mut [u8], record: &mut Record, random: &mut Random, kind: Kind) {
+    let known = record.list(random.below(64)).map(|listed| listed.name);
+    let mut name = known.unwrap_or_else(|_| maker::legal_name(kind, random));
+    if random.one_in(20) {
+        name[0] = random.byte();
+    }
+    let (slot, offset) = (random.below(66), random.below(5000));
+    match random.below(5) {
+        0 => assert_eq!(calls::find(image, &name), record.find(&name)),
+        1 => assert_eq!(calls::list(image, slot), record.list(slot)),
+        2 => {
+            let (mut one, mut other) = ([9; 3000], [9; 3000]);
+            assert_eq!(calls::page(image, slot, offset, &mut one), record.page(slot, offset, &mut other));
+            assert_eq!(one, other);
+        }
+        3 => {
+            let (file_type, content) = (maker::legal_type(kind, random), random.bytes(offset));
+            let name = maker::legal_name(kind, random);
+            let put = calls::put(image, &name, file_type, &content);
+            assert_eq!(put, record.put(&name, file_type, &content));
+        }
+        _ => assert_eq!(calls::remove(image, &name), record.remove(&name)),
+    }
+    assert_eq!(calls::check(image), record.check());
+}
+
+#[test]
+fn calls_behave_as_the_record() {
+    let mut random = Random::new(3);
+    for (at, plan) in plans(&mut random) {
+        let mut image = maker::disk(LAYOUTS[at], plan, &mut random);
+        let disk = read(&image).expect("accepted");
+        let mut record = Record::of(&image, &disk);
+        for turn in 0..300 {
+            step(&mut image, &mut record, &mut random, LAYOUTS[at].kind);
+            if turn % 50 == 0 {
+                let disk = read(&image).expect("accepted");
+                assert_eq!(record, Record::of(&image, &disk));
+            }
+        }
+    }
+}
+
+#[test]
+fn samples_go_there_and_back() {
+    let mut random = Random::new(4);
+    for kind in [Kind::S900, Kind::S1000] {
+        for count in [0, 2, 4, 100, 1000] {
+            let file = files::sample(kind, count, &mut random);
+            let mut words = vec![0; count];
+            assert_eq!(samples::unpack(kind, &file, &mut words), Ok(count));
+            let mut back = vec![0; file.len()];
+            let header = &file[..samples::header_bytes(kind)];
+            assert_eq!(samples::pack(kind, header, &words, &mut back), Ok(file.len()));
+            assert_eq!(back, file);
+        }
+    }
+}
+
+#[test]
+fn programs_are_accepted_and_judged() {
+    let mut random = Random::new(5);
+    for keygroups in [1, 2, 99] {
+        let mut file = files::program(keygroups, &mut random);
+        assert_eq!(program::check(&file), Ok(keygroups));
+        file[150 + 137] = 8;
+        assert_eq!(program::check(&file), Err(Refusal { number: 20, place: 150 + 136 }));
+        file[150 + 40] = 41;
+        assert_eq!(program::check(&file), Err(Refusal { number: 20, place: 150 + 40 }));
+        file.push(0);
+        assert_eq!(program::check(&file), Err(Refusal { number: 20, place: 42 }));
+        assert_eq!(program::check(&file[..149]), Err(Refusal { number: 20, place: 0 }));
+    }
+}

@@ -1,0 +1,115 @@
+//! The worked disks and words of document 01.
+
+use model::calls::{check, put};
+use model::layout::{Kind, LAYOUTS, Layout};
+use model::{Refusal, samples};
+
+const S900_LOW: Layout = LAYOUTS[0];
+const S1000_LOW: Layout = LAYOUTS[2];
+const S1000_HIGH: Layout = LAYOUTS[3];
+
+/// A disk with zeros all over but for what the kind asks.
+fn empty(layout: Layout) -> Vec<u8> {
+    let mut image = vec![0; layout.image_bytes()];
+    if layout.kind == Kind::S1000 {
+        (0..64).for_each(|slot| image[24 * slot + 23] = 3);
+        (0..layout.first()).for_each(|block| map(&mut image, block, 16384));
+    }
+    image
+}
+
+fn map(image: &mut [u8], block: usize, value: u16) {
+    image[1536 + 2 * block..][..2].copy_from_slice(&value.to_le_bytes());
+}
+
+/// A used slot whose name is one character and spaces.
+fn slot(image: &mut [u8], at: usize, length: u32, start: u16) {
+    let s900 = image[23] == 0;
+    let bytes = &mut image[24 * at..][..22];
+    bytes[..16].copy_from_slice(if s900 {
+        b"          \0\0\0\0\0\0"
+    } else {
+        b"\n\n\n\n\n\n\n\n\n\n\n\n    "
+    });
+    bytes[0] = if s900 { b'A' } else { 11 } + at as u8;
+    bytes[16] = if s900 { b'S' } else { b's' };
+    bytes[17..20].copy_from_slice(&length.to_le_bytes()[..3]);
+    bytes[20..22].copy_from_slice(&start.to_le_bytes());
+}
+
+fn counts(image: &[u8]) -> (usize, usize) {
+    let checked = check(image).expect("accepted");
+    (checked.files, checked.free)
+}
+
+fn refused(image: &[u8], number: u32, place: usize) {
+    assert_eq!(check(image), Err(Refusal { number, place }));
+}
+
+#[test]
+fn accepted_disks() {
+    let p1 = vec![0; 819_200];
+    assert_eq!(check(&p1).map(|checked| checked.layout), Ok(S900_LOW));
+    assert_eq!(counts(&p1), (0, 796));
+    let mut p3 = empty(S1000_HIGH);
+    slot(&mut p3, 0, 1024, 5);
+    map(&mut p3, 5, 19152);
+    assert_eq!(check(&p3).map(|checked| checked.layout), Ok(S1000_HIGH));
+    assert_eq!(counts(&p3), (1, 1594));
+    let mut p6 = empty(S900_LOW);
+    slot(&mut p6, 0, 1, 4);
+    map(&mut p6, 4, 32768);
+    assert_eq!(counts(&p6), (1, 795));
+}
+
+#[test]
+fn refused_disks() {
+    refused(&vec![0; 819_199], 1, 0); // P2
+    let mut image = empty(S1000_HIGH);
+    map(&mut image, 5, 19152);
+    slot(&mut image, 0, 1025, 5); // P4
+    refused(&image, 7, 0);
+    slot(&mut image, 0, 1, 4); // P5
+    refused(&image, 6, 0);
+    slot(&mut image, 0, 1, 1600); // P7
+    refused(&image, 6, 0);
+    slot(&mut image, 0, 1, 5);
+    slot(&mut image, 1, 1, 5); // P9
+    refused(&image, 8, 1);
+    let mut image = empty(S1000_HIGH);
+    slot(&mut image, 0, 2048, 5);
+    map(&mut image, 5, 5); // P8
+    refused(&image, 7, 0);
+    let mut image = empty(S900_LOW);
+    map(&mut image, 9, 32768); // P10
+    refused(&image, 9, 9);
+    let mut image = empty(S1000_LOW);
+    map(&mut image, 4, 16384);
+    refused(&image, 9, 4);
+}
+
+#[test]
+fn packed_words() {
+    for (words, bytes) in [([291, -1], [63, 18, 255]), ([-2048, 2047], [15, 128, 127])] {
+        let mut header = vec![0; 60];
+        header[..10].fill(b' ');
+        header[16] = 2;
+        header[26] = b'O';
+        let mut file = [0; 64];
+        assert_eq!(samples::pack(Kind::S900, &header, &words, &mut file), Ok(63)); // P11, P12
+        assert_eq!(file[60..], [bytes[0], bytes[1], bytes[2], 0]);
+        let mut back = [0; 3];
+        assert_eq!(samples::unpack(Kind::S900, &file[..63], &mut back), Ok(2));
+        assert_eq!(back, [words[0], words[1], 0]);
+    }
+}
+
+#[test]
+fn put_of_two_blocks() {
+    let mut image = vec![0; 819_200];
+    assert_eq!(put(&mut image, b"A         ", b'S', &[7; 1025]), Ok(0)); // P13
+    assert_eq!(image[1536 + 8..][..4], [5, 0, 0, 128]);
+    assert_eq!(image[..24], *b"A         \0\0\0\0\0\0S\x01\x04\0\x04\0\0\0");
+    assert_eq!(image[4096 + 1024..][..3], [7, 0, 0]);
+    assert_eq!(counts(&image), (1, 794));
+}
