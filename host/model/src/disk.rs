@@ -47,8 +47,10 @@ impl Disk {
 
 /// A file's content: the first bytes of its blocks in order.
 pub fn content(image: &[u8], file: &File) -> Vec<u8> {
-    let mut content: Vec<u8> =
-        file.chain.iter().flat_map(|block| &image[block * BLOCK..][..BLOCK]).copied().collect();
+    let mut content = Vec::new();
+    for block in &file.chain {
+        content.extend_from_slice(&image[block * BLOCK..][..BLOCK]);
+    }
     content.truncate(file.length);
     content
 }

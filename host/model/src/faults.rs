@@ -2,7 +2,7 @@
 
 use crate::Refusal;
 use crate::calls::set_map;
-use crate::disk::{Disk, read};
+use crate::disk::Disk;
 use crate::layout::{BLOCK, Kind, Layout, MAP_AT, SLOT_BYTES, SLOTS, SYSTEM};
 use crate::names::name_length;
 use crate::random::Random;
@@ -62,19 +62,19 @@ pub const FAULTS: [Fault; 15] = [
     Fault::Lost,
 ];
 
-/// Gives a valid image one fault and says how it is to be refused; None if this disk can't have the fault.
-pub fn spoil(image: &mut Vec<u8>, fault: Fault, random: &mut Random) -> Option<Refusal> {
-    let disk = read(image).ok()?;
+/// Gives an image one fault and says how a valid one is refused for it; None if this disk can't have the fault.
+/// The disk is what the image held while it was valid, so faults can be heaped.
+pub fn spoil(image: &mut Vec<u8>, disk: &Disk, fault: Fault, random: &mut Random) -> Option<Refusal> {
     let (number, place) = match fault {
         Fault::Length => spoil_length(image, random),
-        Fault::Identity => spoil_identity(image, &disk, random),
-        Fault::System => spoil_system(image, &disk, random)?,
-        Fault::Type | Fault::Name | Fault::Filler | Fault::Empty => spoil_form(image, &disk, fault, random)?,
-        Fault::NameTwice => spoil_names(image, &disk, random)?,
-        Fault::Start | Fault::Link | Fault::Short | Fault::Long => spoil_chain(image, &disk, fault, random)?,
-        Fault::Shared => spoil_shared(image, &disk, random)?,
-        Fault::Stray => spoil_stray(image, &disk, random)?,
-        Fault::Lost => spoil_lost(image, &disk, random)?,
+        Fault::Identity => spoil_identity(image, disk, random),
+        Fault::System => spoil_system(image, disk, random)?,
+        Fault::Type | Fault::Name | Fault::Filler | Fault::Empty => spoil_form(image, disk, fault, random)?,
+        Fault::NameTwice => spoil_names(image, disk, random)?,
+        Fault::Start | Fault::Link | Fault::Short | Fault::Long => spoil_chain(image, disk, fault, random)?,
+        Fault::Shared => spoil_shared(image, disk, random)?,
+        Fault::Stray => spoil_stray(image, disk, random)?,
+        Fault::Lost => spoil_lost(image, disk, random)?,
     };
     Some(Refusal { number, place })
 }

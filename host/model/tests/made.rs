@@ -35,9 +35,10 @@ fn faults_are_refused() {
     let mut met = vec![0; FAULTS.len()];
     for (at, plan) in (0..20).flat_map(|_| plans(&mut random)).collect::<Vec<_>>() {
         let good = maker::disk(LAYOUTS[at], plan, &mut random);
+        let disk = read(&good).expect("accepted");
         for (which, &fault) in FAULTS.iter().enumerate() {
             let mut image = good.clone();
-            if let Some(refusal) = spoil(&mut image, fault, &mut random) {
+            if let Some(refusal) = spoil(&mut image, &disk, fault, &mut random) {
                 assert_eq!(calls::check(&image), Err(refusal), "{fault:?}");
                 met[which] += 1;
             }

@@ -1,0 +1,139 @@
+//! A case: all that one seed decides.
+
+use crate::call::{Call, MARGIN, by_library, by_model};
+use crate::{disks, files};
+use model::random::Random;
+use std::fmt;
+
+/// Where library and model part.
+#[derive(Clone, Debug)]
+pub struct Disagreement {
+    /// Runs the case again.
+    pub seed: u64,
+    /// What the case was about.
+    pub about: String,
+    /// Which call of the case, from 0.
+    pub turn: usize,
+    /// The call.
+    pub call: String,
+    /// What differs and how.
+    pub difference: String,
+}
+
+impl fmt::Display for Disagreement {
+    fn fmt(&self, to: &mut fmt::Formatter) -> fmt::Result {
+        writeln!(to, "library and model disagree")?;
+        writeln!(to, "  seed {}: {}", self.seed, self.about)?;
+        writeln!(to, "  call {}: {}", self.turn, self.call)?;
+        write!(to, "  {}", self.difference)
+    }
+}
+
+/// How many calls were made, by the number they were refused with; 0 for those that were done.
+#[derive(Clone, Copy, Debug, Default, PartialEq, Eq)]
+pub struct Tally(pub [usize; 22]);
+
+impl Tally {
+    /// All calls.
+    pub fn calls(&self) -> usize {
+        self.0.iter().sum()
+    }
+
+    /// Adds another tally's calls.
+    pub fn add(&mut self, other: &Tally) {
+        self.0.iter_mut().zip(other.0).for_each(|(sum, more)| *sum += more);
+    }
+}
+
+/// What a case comes to: its calls, or where they part.
+pub type Ran = Result<Tally, Box<Disagreement>>;
+
+/// An image lent to the library and its twin lent to the model, with margins, and the calls so far.
+pub struct Case {
+    seed: u64,
+    about: String,
+    tally: Tally,
+    library: Vec<u8>,
+    model: Vec<u8>,
+}
+
+/// Runs the case of a seed.
+pub fn run(seed: u64) -> Ran {
+    let mut random = Random::new(seed);
+    let (library, model) = (Vec::new(), Vec::new());
+    let mut case = Case { seed, about: String::new(), tally: Tally::default(), library, model };
+    let sorts = if skilletjay::FILES { 10 } else { 7 };
+    match random.below(sorts) {
+        0 | 1 => disks::scattered(&mut case, &mut random)?,
+        2 => disks::near_full(&mut case, &mut random)?,
+        3 => disks::full_directory(&mut case, &mut random)?,
+        4 => disks::faults(&mut case, &mut random)?,
+        5 => disks::damage(&mut case, &mut random)?,
+        6 => disks::noise(&mut case, &mut random)?,
+        7 => files::samples(&mut case, &mut random)?,
+        8 => files::headers(&mut case, &mut random)?,
+        _ => files::programs(&mut case, &mut random)?,
+    }
+    Ok(case.tally)
+}
+
+impl Case {
+    /// What the case is about, for a disagreement's report.
+    pub fn about(&mut self, about: impl Into<String>) {
+        self.about = about.into();
+    }
+
+    /// The image of the next calls.
+    pub fn lend(&mut self, image: &[u8]) {
+        for twin in [&mut self.library, &mut self.model] {
+            twin.clear();
+            twin.resize(MARGIN, 0xA5);
+            twin.extend_from_slice(image);
+            twin.resize(MARGIN + image.len() + MARGIN, 0xA5);
+        }
+    }
+
+    /// The image as the model left it.
+    pub fn image(&self) -> &[u8] {
+        &self.model[MARGIN..self.model.len() - MARGIN]
+    }
+
+    /// Changes the image of the next calls.
+    pub fn change(&mut self, mut change: impl FnMut(&mut [u8])) {
+        let end = self.model.len() - MARGIN;
+        change(&mut self.model[MARGIN..end]);
+        self.library.clone_from(&self.model);
+    }
+
+    /// Makes a call both ways and compares.
+    pub fn call(&mut self, call: &Call) -> Result<(), Box<Disagreement>> {
+        let end = self.model.len().saturating_sub(MARGIN);
+        let start = MARGIN.min(end);
+        let library = by_library(call, &mut self.library[start..end]);
+        let model = by_model(call, &mut self.model[start..end]);
+        let difference = if library.given != model.given {
+            format!("library {:?}\n  model   {:?}", library.given, model.given)
+        } else if let Some(at) = first_apart(&library.output, &model.output) {
+            format!("output at {}", told(&library.output, &model.output, at))
+        } else if let Some(at) = first_apart(&library.words, &model.words) {
+            format!("words at {}", told(&library.words, &model.words, at))
+        } else if let Some(at) = first_apart(&self.library, &self.model) {
+            format!("image at {}", told(&self.library, &self.model, at))
+        } else {
+            self.tally.0[model.given.refusal() as usize] += 1;
+            return Ok(());
+        };
+        let (seed, about, turn) = (self.seed, self.about.clone(), self.tally.calls());
+        Err(Box::new(Disagreement { seed, about, turn, call: call.to_string(), difference }))
+    }
+}
+
+/// The first place where two differ; slices are compared whole first, as that is fast.
+fn first_apart<T: PartialEq>(one: &[T], other: &[T]) -> Option<usize> {
+    if one == other { None } else { one.iter().zip(other).position(|(one, other)| one != other) }
+}
+
+fn told<T: fmt::Debug>(library: &[T], model: &[T], at: usize) -> String {
+    let place = at as isize - MARGIN as isize;
+    format!("{place}: library {:?}, model {:?}", library[at], model[at])
+}

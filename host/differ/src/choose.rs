@@ -1,0 +1,159 @@
+//! Arguments, legal and not.
+
+use crate::call::{Call, MARGIN};
+use model::disk::Disk;
+use model::layout::{BLOCK, Kind, SLOTS};
+use model::maker::{legal_name, legal_type};
+use model::random::Random;
+
+/// An output of a length with its margins, all noise.
+pub fn output(length: usize, random: &mut Random) -> Vec<u8> {
+    random.bytes(length + 2 * MARGIN)
+}
+
+/// An output of words with its margins.
+pub fn words(length: usize, random: &mut Random) -> Vec<i16> {
+    (0..length + 2 * MARGIN).map(|_| random.next_number() as i16).collect()
+}
+
+/// A name: one on the disk, a new one, or an illegal one.
+pub fn name(kind: Kind, disk: Option<&Disk>, random: &mut Random) -> Vec<u8> {
+    let mut name = legal_name(kind, random);
+    if random.one_in(2)
+        && let Some(file) = disk.and_then(|disk| disk.file(random.below(SLOTS)))
+    {
+        name.clone_from(&file.name);
+    }
+    match random.below(30) {
+        0 => name.truncate(random.below(name.len())),
+        1 => name.push(b' '),
+        2 => name.extend_from_slice(b"  "),
+        3 => name.resize(random.pick(&[0, 1, 9, 10, 11, 12, 13, 16, 300]), b' '),
+        4 | 5 => {
+            let at = random.below(name.len());
+            name[at] = random.pick(&[
+                0,
+                10,
+                31,
+                32,
+                40,
+                41,
+                58,
+                64,
+                91,
+                96,
+                97,
+                122,
+                126,
+                127,
+                128,
+                255,
+                random.clone().byte(),
+            ]);
+        }
+        6 => name.iter_mut().for_each(|byte| *byte = byte.to_ascii_lowercase()),
+        _ => {}
+    }
+    name
+}
+
+/// A type, mostly legal.
+pub fn file_type(kind: Kind, random: &mut Random) -> u8 {
+    if random.one_in(15) {
+        return random.pick(&[0, 64, 65, 90, 91, 96, 97, 122, 123, 255, random.clone().byte()]);
+    }
+    legal_type(kind, random)
+}
+
+/// A slot, mostly of the directory.
+pub fn slot(disk: Option<&Disk>, random: &mut Random) -> usize {
+    let used: Vec<usize> =
+        disk.map_or(Vec::new(), |disk| (0..SLOTS).filter(|&slot| disk.file(slot).is_some()).collect());
+    if !used.is_empty() && !random.one_in(3) {
+        return random.pick(&used);
+    }
+    match random.below(10) {
+        0 => random.pick(&[usize::MAX, usize::MAX - 1, 1 << 32, 1 << 63, 256, 1 << 16]),
+        _ => random.below(71),
+    }
+}
+
+/// An offset: around block edges, around the end, or huge.
+pub fn offset(length: usize, random: &mut Random) -> usize {
+    let near = random.pick(&[0usize, 1, 2]);
+    match random.below(8) {
+        0 => 0,
+        1 | 2 => (BLOCK * random.below(length / BLOCK + 2) + near).saturating_sub(1),
+        3 | 4 => (length + near).saturating_sub(1),
+        5 => random.pick(&[usize::MAX, usize::MAX - 1023, 1 << 32, 1 << 24, (1 << 32) + 1]),
+        _ => random.below(length + 2),
+    }
+}
+
+/// A length for a page's output.
+fn page_length(length: usize, random: &mut Random) -> usize {
+    match random.below(12) {
+        0 => 0,
+        1 => 1,
+        2 => length + random.below(2000),
+        3 => random.below(length + 1),
+        4 | 5 => random.pick(&[1023, 1024, 1025, 2048, 2049]),
+        _ => random.below(4000),
+    }
+}
+
+/// A length for a content: edges, what just fits, what just doesn't.
+fn content_length(free: usize, random: &mut Random) -> usize {
+    match random.below(20) {
+        0 => BLOCK * free,
+        1 => BLOCK * free + 1,
+        2 => (BLOCK * free).saturating_sub(random.below(1100)),
+        3 => BLOCK * random.below(free + 2),
+        4 => random.below(200_000),
+        5 if random.one_in(20) => random.pick(&[16_777_215, 16_777_216, 1_638_401]),
+        _ => random.pick(&[0, 1, 2, 1023, 1024, 1025, 2047, 2048, 2049, 3000, 5000]),
+    }
+}
+
+/// Any call on a disk; `puts` of ten calls that change it put.
+pub fn call(kind: Kind, disk: Option<&Disk>, puts: usize, random: &mut Random) -> Call {
+    match random.below(10) {
+        0 => Call::Check,
+        1 => Call::List { slot: slot(disk, random) },
+        2 => Call::Find { name: name(kind, disk, random) },
+        3..=5 => {
+            let slot = slot(disk, random);
+            let length = disk.and_then(|disk| disk.file(slot)).map_or(1500, |file| file.length);
+            let offset = offset(length, random);
+            Call::Page {
+                slot,
+                offset,
+                output: output(page_length(length.saturating_sub(offset), random), random),
+            }
+        }
+        _ if random.below(10) < puts => {
+            let length = content_length(disk.map_or(3, |disk| disk.free().len()), random);
+            let (name, file_type) = (name(kind, disk, random), file_type(kind, random));
+            Call::Put { name, file_type, content: random.bytes(length) }
+        }
+        _ => Call::Remove { name: name(kind, disk, random) },
+    }
+}
+
+/// One call of each sort.
+pub fn each(kind: Kind, disk: Option<&Disk>, random: &mut Random) -> Vec<Call> {
+    let (slot, offset) = (slot(disk, random), offset(2000, random));
+    let name = name(kind, disk, random);
+    vec![
+        Call::Check,
+        Call::List { slot },
+        Call::Find { name: name.clone() },
+        Call::Page { slot, offset, output: output(random.below(3000), random) },
+        Call::Put {
+            name: name.clone(),
+            file_type: file_type(kind, random),
+            content: random.bytes(random.clone().below(3000)),
+        },
+        Call::Remove { name },
+    ]
+}

@@ -1,0 +1,131 @@
+//! Cases about disks.
+
+use crate::call::Call;
+use crate::case::{Case, Disagreement};
+use crate::choose;
+use model::disk::read;
+use model::faults::{FAULTS, damage as damage_bytes, spoil};
+use model::layout::{BLOCK, LAYOUTS, Layout};
+use model::maker::{self, Plan};
+use model::random::Random;
+
+type Done = Result<(), Box<Disagreement>>;
+
+/// Calls on a valid disk, some hundreds of them.
+fn sequence(case: &mut Case, layout: Layout, plan: Plan, calls: usize, random: &mut Random) -> Done {
+    case.lend(&maker::disk(layout, plan, random));
+    let mut puts = random.within(2, 8);
+    for turn in 0..calls {
+        if turn % 60 == 59 {
+            puts = random.within(2, 9);
+        }
+        let disk = read(case.image()).ok();
+        let call = choose::call(layout.kind, disk.as_ref(), puts, random);
+        case.call(&call)?;
+    }
+    downloads(case, random)
+}
+
+/// Every file paged to its end; the pages' ends are compared as all answers are.
+fn downloads(case: &mut Case, random: &mut Random) -> Done {
+    let Ok(disk) = read(case.image()) else { return Ok(()) };
+    for slot in 0..64 {
+        let Some(file) = disk.file(slot) else { continue };
+        let size = random.pick(&[BLOCK, BLOCK - 1, BLOCK + 1, 7 * BLOCK, 100_000]).max(file.length / 8);
+        for offset in (0..file.length + 1).step_by(size) {
+            case.call(&Call::Page { slot, offset, output: choose::output(size, random) })?;
+        }
+    }
+    Ok(())
+}
+
+/// Scattered chains and gaps.
+pub fn scattered(case: &mut Case, random: &mut Random) -> Done {
+    let layout = random.pick(&LAYOUTS);
+    let plan = Plan::scattered(layout, random);
+    case.about(format!("scattered {layout:?} {plan:?}"));
+    sequence(case, layout, plan, random.within(150, 500), random)
+}
+
+/// Next to no room.
+pub fn near_full(case: &mut Case, random: &mut Random) -> Done {
+    let (layout, plan) = (random.pick(&LAYOUTS), Plan::near_full(random));
+    case.about(format!("near full {layout:?} {plan:?}"));
+    sequence(case, layout, plan, random.within(150, 500), random)
+}
+
+/// No slot left, or next to none.
+pub fn full_directory(case: &mut Case, random: &mut Random) -> Done {
+    let (layout, plan) = (random.pick(&LAYOUTS), Plan::full_directory(random));
+    case.about(format!("full directory {layout:?} {plan:?}"));
+    sequence(case, layout, plan, random.within(150, 500), random)
+}
+
+fn any_plan(layout: Layout, random: &mut Random) -> Plan {
+    match random.below(3) {
+        0 => Plan::scattered(layout, random),
+        1 => Plan::near_full(random),
+        _ => Plan::full_directory(random),
+    }
+}
+
+/// Each single fault, or with a second on top: the order of refusals and their lowest places.
+pub fn faults(case: &mut Case, random: &mut Random) -> Done {
+    let layout = random.pick(&LAYOUTS);
+    let good = maker::disk(layout, any_plan(layout, random), random);
+    let Ok(disk) = read(&good) else { return Ok(()) };
+    for fault in FAULTS {
+        let second = if random.one_in(3) { None } else { Some(random.pick(&FAULTS[1..])) };
+        case.about(format!("fault {fault:?} on {layout:?}, and {second:?}"));
+        let mut image = good.clone();
+        if let Some(second) = second {
+            spoil(&mut image, &disk, second, random);
+        }
+        spoil(&mut image, &disk, fault, random);
+        case.lend(&image);
+        for call in choose::each(layout.kind, Some(&disk), random) {
+            case.call(&call)?;
+        }
+    }
+    Ok(())
+}
+
+/// Any damage to directory and map, again and again on the same disk.
+pub fn damage(case: &mut Case, random: &mut Random) -> Done {
+    let layout = random.pick(&LAYOUTS);
+    case.about(format!("damage on {layout:?}"));
+    let good = maker::disk(layout, any_plan(layout, random), random);
+    let disk = read(&good).ok();
+    for _ in 0..40 {
+        case.lend(&good);
+        case.change(|image| damage_bytes(image, layout, random));
+        case.call(&Call::Check)?;
+        for call in choose::each(layout.kind, disk.as_ref(), random).into_iter().skip(1) {
+            if random.one_in(2) {
+                case.call(&call)?;
+            }
+        }
+    }
+    Ok(())
+}
+
+/// Bytes that are no disk: truncations, odd lengths, noise in directory and map.
+pub fn noise(case: &mut Case, random: &mut Random) -> Done {
+    let layout = random.pick(&LAYOUTS);
+    case.about(format!("noise, {layout:?}"));
+    let good = maker::disk(layout, any_plan(layout, random), random);
+    for _ in 0..6 {
+        let mut image = good.clone();
+        match random.below(4) {
+            0 => image.truncate(random.below(good.len())),
+            1 => image.truncate(random.pick(&[0, 1, 24, 1535, 1536, 3136, 4736, 5120])),
+            2 => image.resize(random.pick(&[819_199, 819_200, 819_201, 1_638_399, 1_638_400, 1_638_401]), 0),
+            _ => random.fill(&mut image[..5120]),
+        }
+        case.lend(&image);
+        for call in choose::each(layout.kind, None, random) {
+            case.call(&call)?;
+        }
+    }
+    Ok(())
+}

@@ -1,0 +1,11 @@
+//! Holds the library to the model: the same calls on the same bytes, compared after each call in answer, image
+//! and output.
+//!
+//! A seed decides a whole case: its disk or file, and every call. [`case::run`] runs one.
+#![forbid(unsafe_code)]
+
+pub mod call;
+pub mod case;
+mod choose;
+mod disks;
+mod files;
