@@ -1,5 +1,7 @@
-# make run: what there is to see. make test: the gate.
-.PHONY: run test
+# make run: what there is to see. make test: the gate. make fuzz SECONDS=n: the library against the model on fresh seeds.
+.PHONY: run test fuzz
+
+SECONDS ?= 60
 
 run:
 	@log=$$(rt check table list 2>&1) || { echo "$$log"; exit 1; }; echo "$$log" | tail -n 1
@@ -9,3 +11,7 @@ run:
 
 test:
 	@.ci/run
+
+fuzz:
+	@rt staticlib skilletjay > target/staticlib.log 2>&1 || { cat target/staticlib.log >&2; exit 1; }
+	@host/run $(SECONDS)
