@@ -1,0 +1,253 @@
+//! An image and the calls on it.
+
+use crate::download::Download;
+use crate::{Refusal, lend};
+use std::fmt;
+
+/// Bytes of a block.
+pub const BLOCK: usize = 1024;
+/// Slots of a directory.
+pub const SLOTS: usize = 64;
+
+/// Whose disk it is.
+#[derive(Clone, Copy, Debug, PartialEq, Eq, Hash)]
+pub enum Kind {
+    /// S900 and S950.
+    S900,
+    /// S1000.
+    S1000,
+}
+
+impl Kind {
+    /// Bytes of a name.
+    pub fn name_length(self) -> usize {
+        match self {
+            Kind::S900 => 10,
+            Kind::S1000 => 12,
+        }
+    }
+
+    /// A name padded with spaces to the kind's length. A longer one stays, and calls refuse it by 11.
+    ///
+    /// ```
+    /// assert_eq!(skilletjay::Kind::S900.padded("BASS"), "BASS      ");
+    /// ```
+    pub fn padded(self, name: &str) -> String {
+        format!("{name:width$}", width = self.name_length())
+    }
+}
+
+impl fmt::Display for Kind {
+    fn fmt(&self, to: &mut fmt::Formatter<'_>) -> fmt::Result {
+        to.pad(match self {
+            Kind::S900 => "S900",
+            Kind::S1000 => "S1000",
+        })
+    }
+}
+
+/// How many blocks an image has.
+#[derive(Clone, Copy, Debug, PartialEq, Eq, Hash)]
+pub enum Density {
+    /// 800 blocks.
+    Low,
+    /// 1,600 blocks.
+    High,
+}
+
+impl fmt::Display for Density {
+    fn fmt(&self, to: &mut fmt::Formatter<'_>) -> fmt::Result {
+        to.pad(match self {
+            Density::Low => "low",
+            Density::High => "high",
+        })
+    }
+}
+
+/// What an accepted check gives.
+#[derive(Clone, Copy, Debug, PartialEq, Eq)]
+pub struct Checked {
+    /// Whose disk it is.
+    pub kind: Kind,
+    /// How many blocks it has.
+    pub density: Density,
+    /// Used slots.
+    pub files: usize,
+    /// Free blocks.
+    pub free: usize,
+}
+
+/// A slot of the directory, by its number from 0.
+#[derive(Clone, Copy, Debug, PartialEq, Eq, PartialOrd, Ord, Hash)]
+pub struct Slot(pub usize);
+
+impl fmt::Display for Slot {
+    fn fmt(&self, to: &mut fmt::Formatter<'_>) -> fmt::Result {
+        write!(to, "#{}", self.0)
+    }
+}
+
+/// What a used slot holds.
+#[derive(Clone, Debug, PartialEq, Eq)]
+pub struct Entry {
+    /// The slot.
+    pub slot: Slot,
+    /// The name with its spaces, 10 characters (S900) or 12 (S1000).
+    pub name: String,
+    /// The type, A to Z (S900) or a to z (S1000).
+    pub file_type: u8,
+    /// Bytes of the content.
+    pub length: usize,
+}
+
+/// What a page gives.
+#[derive(Clone, Copy, Debug, PartialEq, Eq)]
+pub struct Paged {
+    /// Bytes written to the output's front.
+    pub count: usize,
+    /// Whether the file ends with them.
+    pub end: bool,
+}
+
+/// An image: bytes that may or may not be a disk. `B` is `Vec<u8>`, `&[u8]` or `&mut [u8]`.
+#[derive(Clone, Debug, PartialEq, Eq)]
+pub struct Image<B = Vec<u8>> {
+    bytes: B,
+}
+
+impl<B: AsRef<[u8]>> Image<B> {
+    /// An image of any bytes.
+    pub fn new(bytes: B) -> Image<B> {
+        Image { bytes }
+    }
+
+    /// The bytes.
+    pub fn bytes(&self) -> &[u8] {
+        self.bytes.as_ref()
+    }
+
+    /// The bytes, given back.
+    pub fn into_bytes(self) -> B {
+        self.bytes
+    }
+
+    /// Whether the image is accepted: refusals 1 to 9.
+    pub fn check(&self) -> Result<Checked, Refusal> {
+        let told = lend::check(self.bytes());
+        let kind = if told.kind == 900 { Kind::S900 } else { Kind::S1000 };
+        let density = if told.density == 0 { Density::Low } else { Density::High };
+        Refusal::or(told.refusal, told.place, Checked { kind, density, files: told.files, free: told.free })
+    }
+
+    /// What a slot holds: 10 if it is empty or there is no such slot.
+    pub fn list(&self, slot: Slot) -> Result<Entry, Refusal> {
+        let told = lend::list(self.bytes(), slot.0);
+        let name = told.name.iter().filter(|&&byte| byte != 0).map(|&byte| char::from(byte)).collect();
+        let entry = Entry { slot, name, file_type: told.file_type, length: told.length };
+        Refusal::or(told.refusal, told.place, entry)
+    }
+
+    /// All used slots, rising.
+    ///
+    /// ```
+    /// # use skilletjay::{Image, Slot};
+    /// let mut image = Image::new(vec![0; 1_638_400]);
+    /// image.put("KICK      ", b'S', &[1; 3000])?;
+    /// image.put("KIT       ", b'P', &[2; 60])?;
+    /// let names: Vec<String> = image.entries()?.into_iter().map(|entry| entry.name).collect();
+    /// assert_eq!(names, ["KICK      ", "KIT       "]);
+    /// # Ok::<(), skilletjay::Refusal>(())
+    /// ```
+    pub fn entries(&self) -> Result<Vec<Entry>, Refusal> {
+        self.check()?;
+        Ok((0..SLOTS).filter_map(|slot| self.list(Slot(slot)).ok()).collect())
+    }
+
+    /// The slot of the file with a name, in ASCII with its spaces: 11, 10.
+    pub fn find(&self, name: impl AsRef<[u8]>) -> Result<Slot, Refusal> {
+        let told = lend::find(self.bytes(), name.as_ref());
+        Refusal::or(told.refusal, told.place, Slot(told.slot))
+    }
+
+    /// Copies a file's bytes from an offset on to the output's front; the output's other bytes are kept: 10, 17.
+    pub fn page(&self, slot: Slot, offset: usize, output: &mut [u8]) -> Result<Paged, Refusal> {
+        let told = lend::page(self.bytes(), slot.0, offset, output);
+        Refusal::or(told.refusal, told.place, Paged { count: told.count, end: told.end != 0 })
+    }
+
+    /// A file's pages from its beginning to its end.
+    pub fn download(&self, slot: Slot) -> Download<'_> {
+        Download::new(self.bytes(), slot)
+    }
+
+    /// A file's whole content.
+    pub fn read(&self, slot: Slot) -> Result<Vec<u8>, Refusal> {
+        let mut content = vec![0; self.list(slot)?.length];
+        self.page(slot, 0, &mut content)?;
+        Ok(content)
+    }
+}
+
+impl<B: AsRef<[u8]> + AsMut<[u8]>> Image<B> {
+    /// Puts a file into the lowest empty slot: 11, 13, 12, 14, 15, 16.
+    pub fn put(&mut self, name: impl AsRef<[u8]>, file_type: u8, content: &[u8]) -> Result<Slot, Refusal> {
+        let told = lend::put(self.bytes.as_mut(), name.as_ref(), file_type, content);
+        Refusal::or(told.refusal, told.place, Slot(told.slot))
+    }
+
+    /// Removes the file with a name: 11, 10.
+    pub fn remove(&mut self, name: impl AsRef<[u8]>) -> Result<(), Refusal> {
+        let told = lend::remove(self.bytes.as_mut(), name.as_ref());
+        Refusal::or(told.refusal, told.place, ())
+    }
+}
+
+#[cfg(test)]
+mod tests {
+    use super::*;
+
+    fn number<T>(answer: Result<T, Refusal>) -> Option<u32> {
+        answer.err().map(|refusal| refusal.number())
+    }
+
+    #[test]
+    fn owned_and_borrowed_images_answer_alike() {
+        let mut bytes = vec![0; 819_200];
+        Image::new(&mut bytes[..]).put("A         ", b'S', b"xyz").expect("room");
+        let borrowed = Image::new(&bytes[..]);
+        let expected = Checked { kind: Kind::S900, density: Density::Low, files: 1, free: 795 };
+        assert_eq!(borrowed.check(), Ok(expected));
+        assert_eq!(borrowed.read(Slot(0)), Ok(b"xyz".to_vec()));
+        assert_eq!(Image::new(bytes).check(), Ok(expected));
+    }
+
+    #[test]
+    fn arguments_are_refused() {
+        let mut image = Image::new(vec![0; 819_200]);
+        assert_eq!(number(image.find("")), Some(11));
+        assert_eq!(number(image.find("NOT HERE  ")), Some(10));
+        assert_eq!(number(image.put("A         ", b's', b"x")), Some(11));
+        assert_eq!(number(image.put("A         ", b'S', b"")), Some(13));
+        assert_eq!(number(image.put("A         ", b'S', &[0; 820_000])), Some(15));
+        assert_eq!(number(image.list(Slot(usize::MAX))), Some(10));
+        assert_eq!(number(image.remove("A         ")), Some(10));
+        assert_eq!(image.into_bytes(), vec![0; 819_200]);
+        assert_eq!(number(Image::new([]).check()), Some(1));
+    }
+
+    #[test]
+    fn a_name_may_lie_in_the_image() {
+        let mut image = Image::new(vec![0; 819_200]);
+        image.put("A         ", b'S', b"x").expect("room");
+        assert_eq!(image.find(&image.bytes()[..10]), Ok(Slot(0)));
+    }
+
+    #[test]
+    fn pages_of_no_length_are_empty() {
+        let mut image = Image::new(vec![0; 819_200]);
+        let slot = image.put("A         ", b'S', b"x").expect("room");
+        assert_eq!(image.page(slot, 0, &mut []), Ok(Paged { count: 0, end: false }));
+        assert_eq!(image.page(slot, 1, &mut []), Ok(Paged { count: 0, end: true }));
+        assert_eq!(number(image.page(slot, 2, &mut [])), Some(17));
+    }
+}
