@@ -21,7 +21,7 @@ pub enum Rule {
     Or255(u8),
     /// Two's complement, from the first to the second.
     Signed(i8, i8),
-    /// A pair of bytes that holds this address: the part's own, which [`judge`] knows.
+    /// A pair of bytes that holds the address of the next part.
     Address,
     /// An AKAII character; a fault stands at its own byte.
     Character,

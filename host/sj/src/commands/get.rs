@@ -1,0 +1,144 @@
+//! `sj get IMAGE NAME|#SLOT [-o FILE]` and `sj get IMAGE --all -o DIR`
+
+use crate::arguments::{Arguments, text};
+use crate::failure::Failure;
+use crate::progress::Progress;
+use crate::save::Draft;
+use crate::{image_file, output};
+use skilletjay::{Entry, Image, Slot};
+use std::collections::HashSet;
+use std::ffi::OsString;
+use std::fs;
+use std::path::{Path, PathBuf};
+
+/// Copies one file or all files out of an image.
+pub fn run(arguments: &mut Arguments) -> Result<(), Failure> {
+    let (all, force) = (arguments.flag("--all"), arguments.flag("--force"));
+    let to = arguments.value("-o")?;
+    let path = arguments.path("the image")?;
+    if all {
+        arguments.end()?;
+        let Some(folder) = to else { return Err(Failure::usage("--all needs -o DIR")) };
+        let image = image_file::read(&path)?;
+        return get_all(&path, &image, &PathBuf::from(folder), force);
+    }
+    let which = text("name", arguments.next("the file's name or #slot")?)?;
+    arguments.end()?;
+    get_one(&path, &image_file::read(&path)?, &which, to, force)
+}
+
+fn get_one(
+    path: &Path,
+    image: &Image,
+    which: &str,
+    to: Option<OsString>,
+    force: bool,
+) -> Result<(), Failure> {
+    let refused = |refusal| Failure::refused(format!("{}: {which}", path.display()), refusal);
+    let kind = image.check().map_err(|refusal| Failure::refused(path.display(), refusal))?.kind;
+    let slot = match slot_number(which) {
+        Some(slot) => slot,
+        None => image.find(kind.padded(which)).map_err(refused)?,
+    };
+    let entry = image.list(slot).map_err(refused)?;
+    match to {
+        Some(to) if to == "-" => output::write(&image.read(slot).map_err(refused)?),
+        Some(to) => download(path, image, &entry, Path::new(&to)),
+        None => {
+            let to = PathBuf::from(file_name(&entry));
+            free_to_write(&to, force)?;
+            download(path, image, &entry, &to)
+        }
+    }
+}
+
+/// `#` and digits alone are a slot; all else is a name.
+fn slot_number(which: &str) -> Option<Slot> {
+    let digits = which.strip_prefix('#')?;
+    if digits.is_empty() || !digits.bytes().all(|byte| byte.is_ascii_digit()) {
+        return None;
+    }
+    Some(Slot(digits.parse().unwrap_or(usize::MAX))) // a number too large is no slot either
+}
+
+fn get_all(path: &Path, image: &Image, folder: &Path, force: bool) -> Result<(), Failure> {
+    let entries = image.entries().map_err(|refusal| Failure::refused(path.display(), refusal))?;
+    fs::create_dir_all(folder).map_err(|error| Failure::file(folder, error))?;
+    let files: Vec<PathBuf> = file_names(&entries).into_iter().map(|name| folder.join(name)).collect();
+    for to in &files {
+        free_to_write(to, force)?;
+    }
+    let mut progress = Progress::new(entries.len());
+    for (entry, to) in entries.iter().zip(&files) {
+        download(path, image, entry, to)?;
+        progress.step();
+    }
+    Ok(())
+}
+
+/// A name that sj chose never replaces a file unasked.
+fn free_to_write(to: &Path, force: bool) -> Result<(), Failure> {
+    if !force && to.symlink_metadata().is_ok() {
+        return Err(Failure::File(format!("{} is there already; --force replaces it", to.display())));
+    }
+    Ok(())
+}
+
+/// Pages a file to its end; only a complete one gets its final name.
+fn download(path: &Path, image: &Image, entry: &Entry, to: &Path) -> Result<(), Failure> {
+    let mut draft = Draft::new(to)?;
+    let mut pages = image.download(entry.slot);
+    for page in &mut pages {
+        draft.write(&page.map_err(|refusal| Failure::refused(path.display(), refusal))?)?;
+    }
+    if !pages.is_complete() || pages.offset() != entry.length {
+        return Err(Failure::Refused(format!("{}: {} isn't complete", path.display(), entry.name)));
+    }
+    draft.keep()
+}
+
+/// A file's name outside the disk: no separators, no hidden file, then the type.
+fn file_name(entry: &Entry) -> String {
+    let safe = |character: char| if "/\\:*?\"<>|".contains(character) { '_' } else { character };
+    let name: String = entry.name.trim_end().chars().map(safe).collect();
+    let first = if name.is_empty() || name.starts_with('.') { "_" } else { "" };
+    format!("{first}{name}.{}", char::from(entry.file_type))
+}
+
+/// All files' names; two that would be one, in any case of letters, get their slot too.
+fn file_names(entries: &[Entry]) -> Vec<String> {
+    let mut taken = HashSet::new();
+    let mut names = Vec::new();
+    for entry in entries {
+        let mut name = file_name(entry);
+        if !taken.insert(name.to_lowercase()) {
+            name = format!("{}-{name}", entry.slot.0);
+            taken.insert(name.to_lowercase());
+        }
+        names.push(name);
+    }
+    names
+}
+
+#[cfg(test)]
+mod tests {
+    use super::*;
+
+    fn entry(slot: usize, name: &str) -> Entry {
+        Entry { slot: Slot(slot), name: name.into(), file_type: b'S', length: 1 }
+    }
+
+    #[test]
+    fn slots_and_names_are_told_apart() {
+        assert_eq!(slot_number("#12"), Some(Slot(12)));
+        assert_eq!(slot_number("#99999999999999999999999"), Some(Slot(usize::MAX)));
+        assert_eq!([slot_number("12"), slot_number("#"), slot_number("#1 "), slot_number("#+1")], [None; 4]);
+    }
+
+    #[test]
+    fn names_are_safe_and_differ() {
+        let entries =
+            [entry(0, "a/b       "), entry(1, "A_B       "), entry(2, "..        "), entry(3, "          ")];
+        assert_eq!(file_names(&entries), ["a_b.S", "1-A_B.S", "_...S", "_.S"]);
+    }
+}

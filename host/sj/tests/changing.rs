@@ -1,0 +1,112 @@
+//! put and rm: what they write, what they leave, and two runs at once.
+
+mod common;
+
+use common::{Folder, Ran, disk};
+use model::calls;
+use model::layout::LAYOUTS;
+use std::fs;
+use std::os::unix::fs::{PermissionsExt, symlink};
+use std::process::Command;
+
+#[test]
+fn put_and_rm_do_what_the_model_does() {
+    let folder = Folder::new("put");
+    for (at, layout) in LAYOUTS.into_iter().enumerate() {
+        let mut image = disk(layout, 20, 100, at as u64);
+        let (file_type, letters) = if at < 2 { ("S", 10) } else { ("s", 12) };
+        folder.write("a.img", &image);
+        folder.write("new", &[7; 3000]);
+        let name = format!("{:letters$}", "NEW 1");
+        let slot =
+            calls::put(&mut image, name.as_bytes(), file_type.as_bytes()[0], &[7; 3000]).expect("room");
+        let said = folder.sj(&["put", "a.img", "new", "--name", "NEW 1", "--type", file_type]).done();
+        assert_eq!(said, format!("#{slot}\n"));
+        assert!(folder.read("a.img") == image);
+        calls::remove(&mut image, name.as_bytes()).expect("there");
+        assert_eq!(folder.sj(&["rm", "a.img", "NEW 1"]).done(), "");
+        assert!(folder.read("a.img") == image);
+    }
+    assert_eq!(folder.names(), ["a.img", "new"]);
+}
+
+#[test]
+fn refused_changes_leave_the_image() {
+    let folder = Folder::new("put-refused");
+    let image = disk(LAYOUTS[1], 64, 10, 1);
+    let mut roomy = vec![0; 819_200];
+    calls::put(&mut roomy, b"A         ", b'S', b"x").expect("room");
+    folder.write("full.img", &image);
+    folder.write("a.img", &roomy);
+    folder.write("empty", b"");
+    folder.write("one", b"1");
+    folder.write("long", &vec![1; 820_000]);
+    let put = |image: &str, file: &str, name: &str, file_type: &str| {
+        folder.sj(&["put", image, file, "--name", name, "--type", file_type])
+    };
+    put("full.img", "one", "NEW", "S").failed(1, &["NEW", "refusal 14", "Remove a file first"]);
+    put("a.img", "one", "NEW", "s").failed(1, &["refusal 11"]);
+    put("a.img", "one", "NAME TOO LONG", "S").failed(1, &["refusal 11"]);
+    put("a.img", "empty", "NEW", "S").failed(1, &["refusal 13"]);
+    put("a.img", "one", "A", "P").failed(1, &["refusal 12, slot 0"]);
+    put("a.img", "long", "NEW", "S").failed(1, &["refusal 15"]);
+    put("a.img", "one", "NEW", "SS").failed(2, &["one letter"]);
+    put("a.img", "none", "NEW", "S").failed(2, &["none"]);
+    put("none.img", "one", "NEW", "S").failed(2, &["none.img"]);
+    folder.sj(&["put", "a.img", "one", "--type", "S"]).failed(2, &["--name is needed"]);
+    folder.sj(&["rm", "a.img", "B"]).failed(1, &["refusal 10"]);
+    folder.sj(&["rm", "a.img"]).failed(2, &["missing"]);
+    assert!(folder.read("full.img") == image && folder.read("a.img") == roomy);
+    assert_eq!(folder.names(), ["a.img", "empty", "full.img", "long", "one"]);
+}
+
+#[test]
+fn a_changed_image_keeps_mode_and_links() {
+    let folder = Folder::new("mode");
+    folder.write("a.img", &vec![0; 819_200]);
+    folder.write("one", b"1");
+    let path = folder.0.join("a.img");
+    fs::set_permissions(&path, fs::Permissions::from_mode(0o640)).expect("mode");
+    symlink("a.img", folder.0.join("link.img")).expect("link");
+    folder.sj(&["put", "link.img", "one", "--name", "A", "--type", "S"]).done();
+    assert_eq!(fs::metadata(&path).expect("there").permissions().mode() & 0o7777, 0o640);
+    assert!(fs::symlink_metadata(folder.0.join("link.img")).expect("there").is_symlink());
+    assert!(folder.sj(&["ls", "a.img"]).done().contains("[A         ]"));
+}
+
+/// A run that can't write the new image: the old one stays whole.
+#[test]
+fn a_failed_run_leaves_the_old_image() {
+    let folder = Folder::new("failed");
+    let image = disk(LAYOUTS[0], 5, 100, 4);
+    folder.write("a.img", &image);
+    folder.write("one", b"1");
+    let limited = format!(
+        "ulimit -c 0; ulimit -f 8; exec {} put a.img one --name NEW --type S",
+        env!("CARGO_BIN_EXE_sj")
+    );
+    let output = Command::new("sh").args(["-c", &limited]).current_dir(&folder.0).output().expect("sh runs");
+    assert!(!output.status.success());
+    assert!(folder.read("a.img") == image);
+    folder.sj(&["put", "a.img", "one", "--name", "NEW", "--type", "S"]).done();
+}
+
+#[test]
+fn runs_at_once_lose_nothing() {
+    let folder = Folder::new("at-once");
+    folder.write("a.img", &vec![0; 1_638_400]);
+    folder.write("one", &[1; 1500]);
+    let name = |turn: usize| format!("FILE {turn}");
+    let put = |turn: usize| {
+        let mut command = folder.command(&["put", "a.img", "one", "--type", "S", "--name", &name(turn)]);
+        command.stdout(std::process::Stdio::piped()).spawn().expect("sj runs")
+    };
+    let runs: Vec<_> = (0..12).map(put).collect();
+    for run in runs {
+        Ran::of(run.wait_with_output().expect("ended")).done();
+    }
+    let checked = calls::check(&folder.read("a.img")).expect("accepted");
+    assert_eq!((checked.files, checked.free), (12, 1595 - 24));
+    (0..12).for_each(|turn| drop(folder.sj(&["rm", "a.img", &name(turn)]).done()));
+    assert_eq!(folder.names(), ["a.img", "one"]);
+}

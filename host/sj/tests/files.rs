@@ -1,0 +1,86 @@
+//! unpack, pack and program on files of the model.
+
+mod common;
+
+use common::Folder;
+use model::files;
+use model::layout::Kind;
+use model::random::Random;
+
+#[test]
+fn samples_go_to_wav_and_back() {
+    if !skilletjay::FILES {
+        return;
+    }
+    let (folder, mut random) = (Folder::new("wav"), Random::new(1));
+    for kind in [Kind::S900, Kind::S1000] {
+        for words in [0, 2, 1000, 40_000] {
+            let file = files::sample(kind, words, &mut random);
+            folder.write("a", &file);
+            folder.sj(&["unpack", "a", "-o", "a.wav"]).done();
+            assert_eq!(folder.read("a.wav").len(), 44 + 2 * words);
+            folder.sj(&["pack", "a.wav", "--like", "a", "-o", "back"]).done();
+            assert!(folder.read("back") == file, "{kind:?} {words}");
+        }
+    }
+    assert_eq!(folder.names(), ["a", "a.wav", "back"]);
+}
+
+#[test]
+fn a_shorter_wav_cuts_the_markers() {
+    if !skilletjay::FILES {
+        return;
+    }
+    let (folder, mut random) = (Folder::new("shorter"), Random::new(2));
+    for kind in [Kind::S900, Kind::S1000] {
+        for (name, words) in [("long", 500), ("short", 20)] {
+            folder.write(name, &files::sample(kind, words, &mut random));
+            folder.sj(&["unpack", name, "-o", &format!("{name}.wav")]).done();
+        }
+        folder.sj(&["pack", "short.wav", "--like", "long", "-o", "new"]).done();
+        folder.sj(&["unpack", "new", "-o", "new.wav"]).done();
+        assert_eq!(folder.read("new.wav"), folder.read("short.wav"));
+    }
+}
+
+#[test]
+fn other_samples_are_refused() {
+    if !skilletjay::FILES {
+        return;
+    }
+    let (folder, mut random) = (Folder::new("samples-refused"), Random::new(3));
+    folder.write("s900", &files::sample(Kind::S900, 4, &mut random));
+    folder.write("s1000", &files::sample(Kind::S1000, 4, &mut random));
+    folder.sj(&["unpack", "s1000", "-o", "a.wav"]).done();
+    let mut fine = folder.read("a.wav");
+    fine[44..].copy_from_slice(&[16, 0, 32, 0, 33, 0, 0, 0]);
+    folder.write("fine.wav", &fine);
+    folder.sj(&["pack", "fine.wav", "--like", "s900", "-o", "b"]).failed(1, &["word 2", "low four"]);
+    fine[22] = 2;
+    folder.write("stereo.wav", &fine);
+    folder.sj(&["pack", "stereo.wav", "--like", "s900", "-o", "b"]).failed(1, &["2 channels"]);
+    let mut bad = folder.read("s900");
+    bad[26] = b'X';
+    folder.write("bad", &bad);
+    folder.sj(&["unpack", "bad", "-o", "b.wav"]).failed(1, &["refusal 18, offset 26"]);
+    folder.sj(&["unpack", "s900"]).failed(2, &["-o is needed"]);
+    folder.sj(&["unpack", "none", "-o", "b.wav"]).failed(2, &["none"]);
+    folder.sj(&["pack", "a.wav", "-o", "b"]).failed(2, &["--like is needed"]);
+    assert_eq!(folder.names(), ["a.wav", "bad", "fine.wav", "s1000", "s900", "stereo.wav"]);
+}
+
+#[test]
+fn programs_are_checked() {
+    if !skilletjay::FILES {
+        return;
+    }
+    let (folder, mut random) = (Folder::new("program"), Random::new(4));
+    let mut file = files::program(3, &mut random);
+    folder.write("p", &file);
+    assert_eq!(folder.sj(&["program", "p"]).done(), "p: S1000 program, 3 keygroups\n");
+    file[150] = 3;
+    folder.write("p", &file);
+    folder.sj(&["program", "p"]).failed(1, &["refusal 20, offset 150"]);
+    folder.sj(&["program"]).failed(2, &["missing"]);
+    folder.sj(&["program", "none"]).failed(2, &["none"]);
+}

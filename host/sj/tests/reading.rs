@@ -1,0 +1,141 @@
+//! check, ls, get and help, with every status.
+
+mod common;
+
+use common::{Folder, disk};
+use model::calls;
+use model::disk::{content, read};
+use model::layout::{LAYOUTS, Layout};
+use std::fs;
+
+const S900_LOW: Layout = LAYOUTS[0];
+const S1000_HIGH: Layout = LAYOUTS[3];
+
+#[test]
+fn check_tells_each_image_and_the_worst_status() {
+    let folder = Folder::new("check");
+    folder.write("a.img", &disk(S900_LOW, 5, 100, 1));
+    folder.write("b.img", &disk(S1000_HIGH, 64, 7, 2));
+    folder.write("short.img", &[0; 819_199]);
+    let said = folder.sj(&["check", "a.img", "b.img"]).done();
+    assert_eq!(
+        said,
+        "a.img: S900 low, 5 files, 100 blocks free\nb.img: S1000 high, 64 files, 7 blocks free\n"
+    );
+    folder
+        .sj(&["check", "short.img"])
+        .failed(1, &["short.img", "refusal 1", "819,200", "Read the disk again"]);
+    let ran = folder.sj(&["check", "none.img", "short.img", "a.img"]);
+    assert_eq!((ran.status, ran.out.starts_with(b"a.img: S900 low")), (Some(2), true));
+    assert!(ran.err.contains("none.img") && ran.err.contains("short.img"), "{}", ran.err);
+    folder.sj(&["check"]).failed(2, &["the image is missing", "--help"]);
+}
+
+#[test]
+fn refusals_have_their_place() {
+    let folder = Folder::new("place");
+    let mut image = disk(S900_LOW, 5, 100, 1);
+    let file = read(&image).expect("accepted").files.into_iter().flatten().next().expect("a file");
+    image[1536 + 2 * file.chain[0]..][..2].fill(0);
+    folder.write("bad.img", &image);
+    let refusal = calls::check(&image).expect_err("refused");
+    let told = format!("refusal {}, slot {}", refusal.number, refusal.place);
+    folder.sj(&["check", "bad.img"]).failed(1, &[&told]);
+    folder.sj(&["ls", "bad.img"]).failed(1, &[&told]);
+    folder.sj(&["get", "bad.img", "#0"]).failed(1, &[&told]);
+    folder.sj(&["get", "bad.img", "--all", "-o", "all"]).failed(1, &[&told]);
+    folder.sj(&["rm", "bad.img", "X"]).failed(1, &[&told]);
+    assert_eq!(folder.names(), ["bad.img"]);
+}
+
+#[test]
+fn ls_lists_as_lines_and_as_json() {
+    let folder = Folder::new("ls");
+    let mut image = vec![0; 819_200];
+    calls::put(&mut image, b"A \"B\\     ", b'S', &[1; 2150]).expect("room");
+    calls::put(&mut image, b"PIANO     ", b'P', &[1; 38]).expect("room");
+    folder.write("a.img", &image);
+    let lines =
+        "S900 low, 2 files, 792 blocks free\n  #0 S     2150 [A \"B\\     ]\n  #1 P       38 [PIANO     ]\n";
+    assert_eq!(folder.sj(&["ls", "a.img"]).done(), lines);
+    let json = "{\"kind\":\"S900\",\"density\":\"low\",\"files\":2,\"free\":792,\"entries\":[\
+        {\"slot\":0,\"name\":\"A \\\"B\\\\     \",\"type\":\"S\",\"length\":2150},\
+        {\"slot\":1,\"name\":\"PIANO     \",\"type\":\"P\",\"length\":38}]}\n";
+    assert_eq!(folder.sj(&["ls", "--json", "a.img"]).done(), json);
+    folder.sj(&["ls", "a.img", "b.img"]).failed(2, &["too many"]);
+    folder.sj(&["ls", "a.img", "--jason"]).failed(2, &["no option --jason"]);
+    folder.sj(&["ls", "none.img"]).failed(2, &["none.img"]);
+}
+
+#[test]
+fn get_copies_whole_files() {
+    let folder = Folder::new("get");
+    let image = disk(S1000_HIGH, 40, 30, 3);
+    folder.write("a.img", &image);
+    let read = read(&image).expect("accepted");
+    for (slot, file) in read.files.iter().enumerate() {
+        let Some(file) = file else { continue };
+        let name = String::from_utf8(file.name.clone()).expect("ASCII");
+        folder.sj(&["get", "a.img", "-o", "by-name", "--", name.trim_end()]).done();
+        assert_eq!(folder.read("by-name"), content(&image, file));
+        let ran = folder.sj(&["get", "a.img", &format!("#{slot}"), "-o", "-"]);
+        assert_eq!((ran.status, ran.out), (Some(0), content(&image, file)));
+    }
+    folder.sj(&["get", "a.img", "NOT HERE"]).failed(1, &["refusal 10", "List the disk"]);
+    folder.sj(&["get", "a.img", "#64"]).failed(1, &["refusal 10"]);
+    folder.sj(&["get", "a.img", "lower case"]).failed(1, &["refusal 11", "12 of 0-9, A-Z"]);
+    folder.sj(&["get", "a.img"]).failed(2, &["name or #slot is missing"]);
+    folder.sj(&["get", "a.img", "X", "-o"]).failed(2, &["-o needs a value"]);
+    assert_eq!(folder.names(), ["a.img", "by-name"]);
+}
+
+#[test]
+fn get_takes_the_name_and_replaces_nothing_unasked() {
+    let folder = Folder::new("get-named");
+    let mut image = vec![0; 819_200];
+    calls::put(&mut image, b"a/b       ", b'S', b"one").expect("room");
+    folder.write("a.img", &image);
+    folder.sj(&["get", "a.img", "a/b"]).done();
+    assert_eq!(folder.read("a_b.S"), b"one");
+    folder.write("a_b.S", b"mine");
+    folder.sj(&["get", "a.img", "#0"]).failed(2, &["a_b.S is there already"]);
+    assert_eq!(folder.read("a_b.S"), b"mine");
+    folder.sj(&["get", "a.img", "#0", "--force"]).done();
+    assert_eq!(folder.read("a_b.S"), b"one");
+    fs::create_dir(folder.0.join("taken")).expect("a folder");
+    folder.sj(&["get", "a.img", "#0", "-o", "taken"]).failed(2, &["no plain file"]);
+    folder.sj(&["get", "a.img", "#0", "-o", "none/x"]).failed(2, &["none/"]);
+}
+
+#[test]
+fn get_all_copies_every_file() {
+    let folder = Folder::new("get-all");
+    let mut image = vec![0; 1_638_400];
+    for (name, bytes) in [(b"a/b       ", 1), (b"A_B       ", 5000), (b"..        ", 1024)] {
+        calls::put(&mut image, name, b'S', &vec![bytes as u8; bytes]).expect("room");
+    }
+    folder.write("a.img", &image);
+    folder.sj(&["get", "a.img", "--all"]).failed(2, &["-o DIR"]);
+    folder.sj(&["get", "a.img", "--all", "-o", "all"]).done();
+    let all = Folder(folder.0.join("all"));
+    assert_eq!(all.names(), ["1-A_B.S", "_...S", "a_b.S"]);
+    assert_eq!(
+        (all.read("a_b.S").len(), all.read("1-A_B.S").len(), all.read("_...S").len()),
+        (1, 5000, 1024)
+    );
+    all.write("a_b.S", b"mine");
+    folder.sj(&["get", "a.img", "--all", "-o", "all"]).failed(2, &["there already"]);
+    folder.sj(&["get", "a.img", "--all", "-o", "all", "--force"]).done();
+    assert_eq!(all.read("a_b.S"), [1]);
+}
+
+#[test]
+fn help_and_wrong_commands() {
+    let folder = Folder::new("help");
+    assert!(folder.sj(&["--help"]).done().contains("sj put IMAGE FILE --name NAME --type T"));
+    let refusals = folder.sj(&["help", "refusals"]).done();
+    (1..=21).for_each(|number| assert!(refusals.contains(&format!("\n{number:>2}  ")), "{number}"));
+    folder.sj(&["help", "nothing"]).failed(2, &["no help on nothing"]);
+    folder.sj(&[]).failed(2, &["which command?"]);
+    folder.sj(&["dance"]).failed(2, &["no command dance"]);
+}
