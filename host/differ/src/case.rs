@@ -1,7 +1,7 @@
 //! A case: all that one seed decides.
 
 use crate::call::{Call, MARGIN, by_library, by_model};
-use crate::{disks, files};
+use crate::{disks, programs, samples};
 use model::random::Random;
 use std::fmt;
 
@@ -57,12 +57,22 @@ pub struct Case {
     model: Vec<u8>,
 }
 
+/// Tells the seed of a case that ended in a panic.
+struct Panicked(u64);
+
+impl Drop for Panicked {
+    fn drop(&mut self) {
+        if std::thread::panicking() {
+            println!("a panic in the case of seed {}", self.0);
+        }
+    }
+}
+
 /// Runs the case of a seed.
 pub fn run(seed: u64) -> Ran {
-    let mut random = Random::new(seed);
-    let (library, model) = (Vec::new(), Vec::new());
-    let mut case = Case { seed, about: String::new(), tally: Tally::default(), library, model };
-    let sorts = if skilletjay::FILES { 10 } else { 7 };
+    let _panicked = Panicked(seed);
+    let (mut case, mut random) = (Case::new(seed), Random::new(seed));
+    let sorts = if skilletjay::FILES { 12 } else { 7 };
     match random.below(sorts) {
         0 | 1 => disks::scattered(&mut case, &mut random)?,
         2 => disks::near_full(&mut case, &mut random)?,
@@ -70,14 +80,28 @@ pub fn run(seed: u64) -> Ran {
         4 => disks::faults(&mut case, &mut random)?,
         5 => disks::damage(&mut case, &mut random)?,
         6 => disks::noise(&mut case, &mut random)?,
-        7 => files::samples(&mut case, &mut random)?,
-        8 => files::headers(&mut case, &mut random)?,
-        _ => files::programs(&mut case, &mut random)?,
+        7 => samples::whole(&mut case, &mut random)?,
+        8 => samples::headers(&mut case, &mut random)?,
+        9 => samples::wrapping(&mut case, &mut random)?,
+        10 => programs::damaged(&mut case, &mut random)?,
+        _ => programs::pairs(&mut case, &mut random)?,
     }
     Ok(case.tally)
 }
 
+/// Tries every value of every byte of sample headers and of a program.
+pub fn run_every_byte(seed: u64) -> Ran {
+    let (mut case, mut random) = (Case::new(seed), Random::new(seed));
+    samples::every_byte(&mut case, &mut random)?;
+    programs::every_byte(&mut case, &mut random)?;
+    Ok(case.tally)
+}
+
 impl Case {
+    fn new(seed: u64) -> Case {
+        Case { seed, about: String::new(), tally: Tally::default(), library: Vec::new(), model: Vec::new() }
+    }
+
     /// What the case is about, for a disagreement's report.
     pub fn about(&mut self, about: impl Into<String>) {
         self.about = about.into();

@@ -16,6 +16,16 @@ pub fn words(length: usize, random: &mut Random) -> Vec<i16> {
     (0..length + 2 * MARGIN).map(|_| random.next_number() as i16).collect()
 }
 
+/// A length near one that is due.
+pub fn near(due: usize, random: &mut Random) -> usize {
+    match random.below(6) {
+        0 => due.saturating_sub(1),
+        1 => due + random.below(40),
+        2 => random.below(due + 1),
+        _ => due,
+    }
+}
+
 /// A name: one on the disk, a new one, or an illegal one.
 pub fn name(kind: Kind, disk: Option<&Disk>, random: &mut Random) -> Vec<u8> {
     let mut name = legal_name(kind, random);
@@ -29,27 +39,13 @@ pub fn name(kind: Kind, disk: Option<&Disk>, random: &mut Random) -> Vec<u8> {
         1 => name.push(b' '),
         2 => name.extend_from_slice(b"  "),
         3 => name.resize(random.pick(&[0, 1, 9, 10, 11, 12, 13, 16, 300]), b' '),
-        4 | 5 => {
+        4 => {
             let at = random.below(name.len());
-            name[at] = random.pick(&[
-                0,
-                10,
-                31,
-                32,
-                40,
-                41,
-                58,
-                64,
-                91,
-                96,
-                97,
-                122,
-                126,
-                127,
-                128,
-                255,
-                random.clone().byte(),
-            ]);
+            name[at] = random.pick(&[0, 10, 31, 32, 40, 41, 58, 64, 91, 96, 97, 122, 126, 127, 128, 255]);
+        }
+        5 => {
+            let at = random.below(name.len());
+            name[at] = random.byte();
         }
         6 => name.iter_mut().for_each(|byte| *byte = byte.to_ascii_lowercase()),
         _ => {}
@@ -59,10 +55,11 @@ pub fn name(kind: Kind, disk: Option<&Disk>, random: &mut Random) -> Vec<u8> {
 
 /// A type, mostly legal.
 pub fn file_type(kind: Kind, random: &mut Random) -> u8 {
-    if random.one_in(15) {
-        return random.pick(&[0, 64, 65, 90, 91, 96, 97, 122, 123, 255, random.clone().byte()]);
+    match random.below(30) {
+        0 => random.byte(),
+        1 | 2 => random.pick(&[0, 64, 65, 90, 91, 96, 97, 122, 123, 255]),
+        _ => legal_type(kind, random),
     }
-    legal_type(kind, random)
 }
 
 /// A slot, mostly of the directory.
@@ -144,16 +141,13 @@ pub fn call(kind: Kind, disk: Option<&Disk>, puts: usize, random: &mut Random) -
 pub fn each(kind: Kind, disk: Option<&Disk>, random: &mut Random) -> Vec<Call> {
     let (slot, offset) = (slot(disk, random), offset(2000, random));
     let name = name(kind, disk, random);
+    let content = random.below(3000);
     vec![
         Call::Check,
         Call::List { slot },
         Call::Find { name: name.clone() },
         Call::Page { slot, offset, output: output(random.below(3000), random) },
-        Call::Put {
-            name: name.clone(),
-            file_type: file_type(kind, random),
-            content: random.bytes(random.clone().below(3000)),
-        },
+        Call::Put { name: name.clone(), file_type: file_type(kind, random), content: random.bytes(content) },
         Call::Remove { name },
     ]
 }

@@ -22,3 +22,13 @@ fn library_and_model_agree() {
         assert!(enough, "{} calls were refused by {number}", tally.0[number]);
     }
 }
+
+#[test]
+fn every_byte_of_files_is_judged_alike() {
+    if skilletjay::FILES {
+        match case::run_every_byte(1) {
+            Ok(tally) => println!("{} calls, by refusal {:?}", tally.calls(), tally.0),
+            Err(disagreement) => panic!("{disagreement}"),
+        }
+    }
+}
