@@ -10,7 +10,7 @@ use std::fmt;
 pub const MARGIN: usize = 16;
 
 /// A call with its arguments. An output has a margin on either side.
-#[derive(Clone)]
+#[derive(Clone, PartialEq, Eq)]
 pub enum Call {
     /// `sj_check`
     Check,

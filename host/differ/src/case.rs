@@ -133,9 +133,12 @@ impl Case {
     pub fn call(&mut self, call: &Call) -> Result<(), Box<Disagreement>> {
         let end = self.model.len().saturating_sub(MARGIN);
         let start = MARGIN.min(end);
-        let library = by_library(call, &mut self.library[start..end]);
+        let lent = call.clone();
+        let library = by_library(&lent, &mut self.library[start..end]);
         let model = by_model(call, &mut self.model[start..end]);
-        let difference = if library.given != model.given {
+        let difference = if lent != *call {
+            "the library changed an argument that it was lent to read".to_string()
+        } else if library.given != model.given {
             format!("library {:?}\n  model   {:?}", library.given, model.given)
         } else if let Some(at) = first_apart(&library.output, &model.output) {
             format!("output at {}", told(&library.output, &model.output, at))

@@ -1,0 +1,60 @@
+//! The raw declarations against `include/skilletjay.h`: sizes, offsets and the functions' types, judged by the C compiler.
+
+use skilletjay::raw::{Checked, Counted, Done, Found, Listed, Paged};
+use std::fmt::Write;
+use std::mem::{offset_of, size_of};
+use std::path::Path;
+use std::process::Command;
+
+/// Assertions in C that a struct is as Rust has it; a field's name in C comes first.
+macro_rules! like {
+    ($text:ident, $c:literal, $rust:ty, $($c_field:literal $field:ident),*) => {
+        let size = size_of::<$rust>();
+        let _ = writeln!($text, "_Static_assert(sizeof({}) == {size}, \"size\");", $c);
+        $(
+            let at = offset_of!($rust, $field);
+            let _ = writeln!($text, "_Static_assert(offsetof({}, {}) == {at}, \"{}\");", $c, $c_field, $c_field);
+        )*
+    };
+}
+
+const FUNCTIONS: &str = "
+sj_checked (*check)(const uint8_t *, size_t) = sj_check;
+sj_listed (*list)(const uint8_t *, size_t, size_t) = sj_list;
+sj_found (*find)(const uint8_t *, size_t, const uint8_t *, size_t) = sj_find;
+sj_paged (*page)(const uint8_t *, size_t, size_t, size_t, uint8_t *, size_t) = sj_page;
+sj_found (*put)(uint8_t *, size_t, const uint8_t *, size_t, uint8_t, const uint8_t *, size_t) = sj_put;
+sj_done (*take)(uint8_t *, size_t, const uint8_t *, size_t) = sj_remove;
+";
+
+const FILE_FUNCTIONS: &str = "
+sj_counted (*unpack[])(const uint8_t *, size_t, int16_t *, size_t) = {sj_s900_unpack, sj_s1000_unpack};
+sj_counted (*pack[])(const uint8_t *, size_t, const int16_t *, size_t, uint8_t *, size_t) = {sj_s900_pack, sj_s1000_pack};
+sj_counted (*program)(const uint8_t *, size_t) = sj_program;
+";
+
+fn source() -> String {
+    let mut text = String::from("#include <skilletjay.h>\n");
+    like!(text, "sj_checked", Checked, "refusal" refusal, "place" place, "kind" kind, "density" density, "files" files, "free" free);
+    like!(text, "sj_listed", Listed, "refusal" refusal, "place" place, "name" name, "type" file_type, "length" length);
+    like!(text, "sj_found", Found, "refusal" refusal, "place" place, "slot" slot);
+    like!(text, "sj_paged", Paged, "refusal" refusal, "place" place, "count" count, "end" end);
+    like!(text, "sj_done", Done, "refusal" refusal, "place" place);
+    text.push_str(FUNCTIONS);
+    if skilletjay::FILES {
+        like!(text, "sj_counted", Counted, "refusal" refusal, "place" place, "count" count);
+        text.push_str(FILE_FUNCTIONS);
+    }
+    text
+}
+
+#[test]
+fn declarations_are_the_headers() {
+    let include = Path::new(env!("CARGO_MANIFEST_DIR")).join("../../include");
+    let file = Path::new(env!("CARGO_TARGET_TMPDIR")).join("header.c");
+    std::fs::write(&file, source()).expect("written");
+    let mut compiler = Command::new("cc");
+    compiler.args(["-std=c11", "-Wall", "-Werror", "-fsyntax-only", "-I"]).arg(include).arg(&file);
+    let output = compiler.output().expect("cc runs");
+    assert!(output.status.success(), "{}", String::from_utf8_lossy(&output.stderr));
+}
