@@ -6,72 +6,24 @@ use skilletjay::lend;
 use skilletjay::raw::{Checked, Counted, Done, Found, Listed, Paged};
 use std::fmt;
 
-/// Bytes or words on either side of what is lent, which no call may touch.
-pub const MARGIN: usize = 16;
+/// Bytes or words on either side of what is lent, which no call may touch. It is odd, so that images and outputs begin at
+/// odd addresses.
+pub const MARGIN: usize = 17;
 
-/// A call with its arguments. An output has a margin on either side.
+/// A call with its arguments, which may be anything. What is written to, `output` and the `words` of Unpack, has a
+/// margin on either side.
 #[derive(Clone, PartialEq, Eq)]
+#[allow(missing_docs)]
 pub enum Call {
-    /// `sj_check`
     Check,
-    /// `sj_list`
-    List {
-        /** any number */
-        slot: usize,
-    },
-    /// `sj_find`
-    Find {
-        /** any bytes */
-        name: Vec<u8>,
-    },
-    /// `sj_page`
-    Page {
-        /** any number */
-        slot: usize,
-        /** any number */
-        offset: usize,
-        /** with margins */
-        output: Vec<u8>,
-    },
-    /// `sj_put`
-    Put {
-        /** any bytes */
-        name: Vec<u8>,
-        /** any byte */
-        file_type: u8,
-        /** any bytes */
-        content: Vec<u8>,
-    },
-    /// `sj_remove`
-    Remove {
-        /** any bytes */
-        name: Vec<u8>,
-    },
-    /// `sj_s900_unpack`, `sj_s1000_unpack`
-    Unpack {
-        /** which */
-        kind: Kind,
-        /** any bytes */
-        file: Vec<u8>,
-        /** with margins */
-        words: Vec<i16>,
-    },
-    /// `sj_s900_pack`, `sj_s1000_pack`
-    Pack {
-        /** which */
-        kind: Kind,
-        /** any bytes */
-        header: Vec<u8>,
-        /** any */
-        words: Vec<i16>,
-        /** with margins */
-        output: Vec<u8>,
-    },
-    /// `sj_program`
-    Program {
-        /** any bytes */
-        file: Vec<u8>,
-    },
+    List { slot: usize },
+    Find { name: Vec<u8> },
+    Page { slot: usize, offset: usize, output: Vec<u8> },
+    Put { name: Vec<u8>, file_type: u8, content: Vec<u8> },
+    Remove { name: Vec<u8> },
+    Unpack { kind: Kind, file: Vec<u8>, words: Vec<i16> },
+    Pack { kind: Kind, header: Vec<u8>, words: Vec<i16>, output: Vec<u8> },
+    Program { file: Vec<u8> },
 }
 
 /// What a call gave, as C sees it.

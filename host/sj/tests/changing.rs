@@ -91,6 +91,28 @@ fn a_failed_run_leaves_the_old_image() {
     folder.sj(&["put", "a.img", "one", "--name", "NEW", "--type", "S"]).done();
 }
 
+/// Runs ended at any moment: the image is the old one or the new one.
+#[test]
+fn an_interrupted_run_leaves_a_whole_image() {
+    let folder = Folder::new("interrupted");
+    let old = disk(LAYOUTS[3], 30, 500, 5);
+    let mut new = old.clone();
+    calls::put(&mut new, b"NEW         ", b's', &[3; 100_000]).expect("room");
+    folder.write("long", &[3; 100_000]);
+    let mut interrupted = 0;
+    for turn in 0..40 {
+        folder.write("a.img", &old);
+        let mut run = folder.command(&["put", "a.img", "long", "--name", "NEW", "--type", "s"]);
+        let mut run = run.stdout(std::process::Stdio::null()).spawn().expect("sj runs");
+        std::thread::sleep(std::time::Duration::from_micros(200 * turn));
+        let _ = run.kill(); // it may have ended
+        interrupted += usize::from(!run.wait().expect("ended").success());
+        let image = folder.read("a.img");
+        assert!(image == old || image == new, "turn {turn}");
+    }
+    assert!(interrupted > 0);
+}
+
 #[test]
 fn runs_at_once_lose_nothing() {
     let folder = Folder::new("at-once");

@@ -18,10 +18,7 @@ fn check_tells_each_image_and_the_worst_status() {
     folder.write("b.img", &disk(S1000_HIGH, 64, 7, 2));
     folder.write("short.img", &[0; 819_199]);
     let said = folder.sj(&["check", "a.img", "b.img"]).done();
-    assert_eq!(
-        said,
-        "a.img: S900 low, 5 files, 100 blocks free\nb.img: S1000 high, 64 files, 7 blocks free\n"
-    );
+    assert_eq!(said, "a.img: S900 low, files 5, free 100\nb.img: S1000 high, files 64, free 7\n");
     folder
         .sj(&["check", "short.img"])
         .failed(1, &["short.img", "refusal 1", "819,200", "Read the disk again"]);
@@ -55,8 +52,7 @@ fn ls_lists_as_lines_and_as_json() {
     calls::put(&mut image, b"A \"B\\     ", b'S', &[1; 2150]).expect("room");
     calls::put(&mut image, b"PIANO     ", b'P', &[1; 38]).expect("room");
     folder.write("a.img", &image);
-    let lines =
-        "S900 low, 2 files, 792 blocks free\n  #0 S     2150 [A \"B\\     ]\n  #1 P       38 [PIANO     ]\n";
+    let lines = "S900 low, files 2, free 792\n  #0 S     2150 [A \"B\\     ]\n  #1 P       38 [PIANO     ]\n";
     assert_eq!(folder.sj(&["ls", "a.img"]).done(), lines);
     let json = "{\"kind\":\"S900\",\"density\":\"low\",\"files\":2,\"free\":792,\"entries\":[\
         {\"slot\":0,\"name\":\"A \\\"B\\\\     \",\"type\":\"S\",\"length\":2150},\

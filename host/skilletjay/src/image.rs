@@ -183,7 +183,8 @@ impl<B: AsRef<[u8]>> Image<B> {
     /// A file's whole content.
     pub fn read(&self, slot: Slot) -> Result<Vec<u8>, Refusal> {
         let mut content = vec![0; self.list(slot)?.length];
-        self.page(slot, 0, &mut content)?;
+        let paged = self.page(slot, 0, &mut content)?;
+        content.truncate(paged.count);
         Ok(content)
     }
 }

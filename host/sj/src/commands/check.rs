@@ -35,10 +35,5 @@ fn line(path: &Path) -> Result<String, Failure> {
     let image = image_file::read(path)?;
     let checked = image.check().map_err(|refusal| Failure::refused(path.display(), refusal))?;
     let (kind, density) = (checked.kind, checked.density);
-    Ok(format!(
-        "{}: {kind} {density}, {} files, {} blocks free\n",
-        path.display(),
-        checked.files,
-        checked.free
-    ))
+    Ok(format!("{}: {kind} {density}, files {}, free {}\n", path.display(), checked.files, checked.free))
 }

@@ -18,10 +18,8 @@ pub fn run(arguments: &mut Arguments) -> Result<(), Failure> {
 }
 
 fn in_lines(checked: &Checked, entries: &[Entry]) -> String {
-    let mut text = format!(
-        "{} {}, {} files, {} blocks free\n",
-        checked.kind, checked.density, checked.files, checked.free
-    );
+    let mut text =
+        format!("{} {}, files {}, free {}\n", checked.kind, checked.density, checked.files, checked.free);
     for entry in entries {
         let (slot, file_type) = (entry.slot.to_string(), char::from(entry.file_type));
         let _ = writeln!(text, "{slot:>4} {file_type} {:>8} [{}]", entry.length, entry.name);
