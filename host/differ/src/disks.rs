@@ -69,13 +69,13 @@ fn any_plan(layout: Layout, random: &mut Random) -> Plan {
     }
 }
 
-/// Each single fault, or with a second on top: the order of refusals and their lowest places.
+/// Each fault: alone, twice (which place is the lowest?), or with another (which number comes first?).
 pub fn faults(case: &mut Case, random: &mut Random) -> Done {
     let layout = random.pick(&LAYOUTS);
     let good = maker::disk(layout, any_plan(layout, random), random);
     let Ok(disk) = read(&good) else { return Ok(()) };
     for fault in FAULTS {
-        let second = if random.one_in(3) { None } else { Some(random.pick(&FAULTS[1..])) };
+        let second = [None, Some(fault), Some(random.pick(&FAULTS[1..]))][random.below(3)];
         case.about(format!("fault {fault:?} on {layout:?}, and {second:?}"));
         let mut image = good.clone();
         if let Some(second) = second {
