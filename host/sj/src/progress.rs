@@ -13,12 +13,14 @@ pub struct Progress {
     terminal: bool,
     start: Instant,
     told: Option<Instant>,
+    shown: bool,
 }
 
 impl Progress {
     /// So many steps are to come.
     pub fn new(all: usize) -> Progress {
-        Progress { done: 0, all, terminal: stderr().is_terminal(), start: Instant::now(), told: None }
+        let (terminal, start) = (stderr().is_terminal(), Instant::now());
+        Progress { done: 0, all, terminal, start, told: None, shown: false }
     }
 
     /// One step is done.
@@ -28,12 +30,14 @@ impl Progress {
         if self.terminal && self.start.elapsed() > PATIENCE && !recent {
             eprint!("\r{} of {}", self.done, self.all);
             self.told = Some(Instant::now());
+            self.shown = true;
         }
     }
 
     /// Clears the line before something else is told.
     pub fn clear(&mut self) {
-        if self.told.take().is_some() {
+        if self.shown {
+            self.shown = false;
             eprint!("\r\x1b[K");
             let _ = stderr().flush(); // nothing is lost if it stays
         }
