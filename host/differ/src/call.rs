@@ -1,7 +1,7 @@
 //! A call, made by the library and by the model.
 
 use model::layout::{Density, Kind};
-use model::{Answer, calls, program, samples};
+use model::{Answer, calls, program, samples, script};
 use skilletjay::lend;
 use skilletjay::raw::{Checked, Counted, Done, Found, Listed, Paged};
 use std::fmt;
@@ -21,6 +21,7 @@ pub enum Call {
     Page { slot: usize, offset: usize, output: Vec<u8> },
     Put { name: Vec<u8>, file_type: u8, content: Vec<u8> },
     Remove { name: Vec<u8> },
+    Run { script: Vec<u8>, pool: Vec<u8>, output: Vec<u8> },
     Unpack { kind: Kind, file: Vec<u8>, words: Vec<i16> },
     Pack { kind: Kind, header: Vec<u8>, words: Vec<i16>, output: Vec<u8> },
     Program { file: Vec<u8> },
@@ -36,6 +37,8 @@ pub enum Given {
     Paged(Paged),
     Done(Done),
     Counted(Counted),
+    /// Calls of a script.
+    Made(usize),
 }
 
 impl Given {
@@ -48,6 +51,7 @@ impl Given {
             | Given::Paged(Paged { refusal, .. })
             | Given::Done(Done { refusal, .. })
             | Given::Counted(Counted { refusal, .. }) => *refusal,
+            Given::Made(_) => 0,
         }
     }
 }
@@ -82,6 +86,10 @@ pub fn by_library(call: &Call, image: &mut [u8]) -> Outcome {
         }
         Call::Put { name, file_type, content } => Given::Found(lend::put(image, name, *file_type, content)),
         Call::Remove { name } => Given::Done(lend::remove(image, name)),
+        Call::Run { script, pool, output } => {
+            out.clone_from(output);
+            Given::Made(lend::run(image, script, pool, lent(&mut out)))
+        }
         Call::Unpack { kind, file, words } => {
             out_words.clone_from(words);
             let unpack = if *kind == Kind::S900 { lend::s900_unpack } else { lend::s1000_unpack };
@@ -112,6 +120,10 @@ pub fn by_model(call: &Call, image: &mut [u8]) -> Outcome {
             Given::Found(found(calls::put(image, name, *file_type, content)))
         }
         Call::Remove { name } => Given::Done(done(calls::remove(image, name))),
+        Call::Run { script: entries, pool, output } => {
+            out.clone_from(output);
+            Given::Made(script::run(image, entries, pool, lent(&mut out)))
+        }
         Call::Unpack { kind, file, words } => {
             out_words.clone_from(words);
             Given::Counted(counted(samples::unpack(*kind, file, lent(&mut out_words))))
@@ -192,6 +204,10 @@ impl fmt::Display for Call {
                 write!(to, "put {} type {file_type} content {}", text(name), content.len())
             }
             Call::Remove { name } => write!(to, "remove {}", text(name)),
+            Call::Run { script, pool, output } => {
+                let (script, pool, output) = (script.len(), pool.len(), output.len() - 2 * MARGIN);
+                write!(to, "run script {script} pool {pool} output {output}")
+            }
             Call::Unpack { kind, file, words } => {
                 write!(to, "unpack {kind:?} file {} words {}", file.len(), words.len() - 2 * MARGIN)
             }

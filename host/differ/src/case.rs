@@ -1,7 +1,7 @@
 //! A case: all that one seed decides.
 
 use crate::call::{Call, MARGIN, by_library, by_model};
-use crate::{disks, programs, samples};
+use crate::{disks, programs, samples, scripts};
 use model::random::Random;
 use std::fmt;
 
@@ -72,7 +72,7 @@ impl Drop for Panicked {
 pub fn run(seed: u64) -> Ran {
     let _panicked = Panicked(seed);
     let (mut case, mut random) = (Case::new(seed), Random::new(seed));
-    let sorts = if skilletjay::FILES { 12 } else { 7 };
+    let sorts = if skilletjay::FILES { 13 } else { 8 };
     match random.below(sorts) {
         0 | 1 => disks::scattered(&mut case, &mut random)?,
         2 => disks::near_full(&mut case, &mut random)?,
@@ -80,10 +80,11 @@ pub fn run(seed: u64) -> Ran {
         4 => disks::faults(&mut case, &mut random)?,
         5 => disks::damage(&mut case, &mut random)?,
         6 => disks::noise(&mut case, &mut random)?,
-        7 => samples::whole(&mut case, &mut random)?,
-        8 => samples::headers(&mut case, &mut random)?,
-        9 => samples::wrapping(&mut case, &mut random)?,
-        10 => programs::damaged(&mut case, &mut random)?,
+        7 => scripts::run(&mut case, &mut random)?,
+        8 => samples::whole(&mut case, &mut random)?,
+        9 => samples::headers(&mut case, &mut random)?,
+        10 => samples::wrapping(&mut case, &mut random)?,
+        11 => programs::damaged(&mut case, &mut random)?,
         _ => programs::pairs(&mut case, &mut random)?,
     }
     Ok(case.tally)

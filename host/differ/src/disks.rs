@@ -61,7 +61,8 @@ pub fn full_directory(case: &mut Case, random: &mut Random) -> Done {
     sequence(case, layout, plan, random.within(150, 500), random)
 }
 
-fn any_plan(layout: Layout, random: &mut Random) -> Plan {
+/// Any of the three.
+pub fn any_plan(layout: Layout, random: &mut Random) -> Plan {
     match random.below(3) {
         0 => Plan::scattered(layout, random),
         1 => Plan::near_full(random),

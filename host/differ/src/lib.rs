@@ -11,3 +11,4 @@ mod choose;
 mod disks;
 mod programs;
 mod samples;
+mod scripts;

@@ -1,7 +1,7 @@
 //! The C functions on Rust slices. Here and in `lend_files` is all unsafe code of the binding.
 //!
 //! Each function lends its slices for the time of the call. A mutable slice can't overlap another in Rust; two
-//! shared ones could, so names are copied before they are lent.
+//! shared ones could, so names and scripts are copied before they are lent.
 
 use crate::raw::{self, Checked, Done, Found, Listed, Paged};
 use std::ptr;
@@ -59,4 +59,26 @@ pub fn remove(image: &mut [u8], name: &[u8]) -> Done {
     let name = name.to_vec();
     // SAFETY: the image is writable and the name readable for its length; a mutable slice lies apart.
     unsafe { raw::sj_remove(lent_mut(image), image.len(), lent(&name), name.len()) }
+}
+
+/// `sj_run`.
+pub fn run(image: &mut [u8], script: &[u8], pool: &[u8], output: &mut [u8]) -> usize {
+    let script = script.to_vec();
+    let (image_at, image_length) = (lent_mut(image), image.len());
+    let (output_at, output_length) = (lent_mut(output), output.len());
+    let (script_at, pool_at) = (lent(&script), lent(pool));
+    // SAFETY: image and output are writable, script and pool are readable for their lengths; image and output are
+    // mutable slices and the script is a copy, so all four lie apart.
+    unsafe {
+        raw::sj_run(
+            image_at,
+            image_length,
+            script_at,
+            script.len(),
+            pool_at,
+            pool.len(),
+            output_at,
+            output_length,
+        )
+    }
 }

@@ -80,6 +80,16 @@ unsafe extern "C" {
         content_len: usize,
     ) -> Found;
     pub fn sj_remove(image: *mut u8, image_len: usize, name: *const u8, name_len: usize) -> Done;
+    pub fn sj_run(
+        image: *mut u8,
+        image_len: usize,
+        script: *const u8,
+        script_len: usize,
+        pool: *const u8,
+        pool_len: usize,
+        out: *mut u8,
+        out_len: usize,
+    ) -> usize;
 }
 
 #[cfg(files)]

@@ -25,6 +25,7 @@ sj_found (*find)(const uint8_t *, size_t, const uint8_t *, size_t) = sj_find;
 sj_paged (*page)(const uint8_t *, size_t, size_t, size_t, uint8_t *, size_t) = sj_page;
 sj_found (*put)(uint8_t *, size_t, const uint8_t *, size_t, uint8_t, const uint8_t *, size_t) = sj_put;
 sj_done (*take)(uint8_t *, size_t, const uint8_t *, size_t) = sj_remove;
+size_t (*run)(uint8_t *, size_t, const uint8_t *, size_t, const uint8_t *, size_t, uint8_t *, size_t) = sj_run;
 ";
 
 const FILE_FUNCTIONS: &str = "
