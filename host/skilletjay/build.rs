@@ -2,18 +2,11 @@
 
 use std::path::Path;
 
-/// Whether the archive has the sample and program functions.
-const FILES: bool = false;
-
 fn main() {
     let root = Path::new(env!("CARGO_MANIFEST_DIR")).join("../..");
     let folder = root.join("target/staticlib");
     let archive = folder.join("libskilletjay.a");
     println!("cargo::rerun-if-changed={}", archive.display());
-    println!("cargo::rustc-check-cfg=cfg(files)");
-    if FILES {
-        println!("cargo::rustc-cfg=files");
-    }
     if !archive.is_file() {
         println!(
             "cargo::error=no {}: make it with `rt staticlib skilletjay` at the repository's root",

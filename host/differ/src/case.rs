@@ -72,8 +72,7 @@ impl Drop for Panicked {
 pub fn run(seed: u64) -> Ran {
     let _panicked = Panicked(seed);
     let (mut case, mut random) = (Case::new(seed), Random::new(seed));
-    let sorts = if skilletjay::FILES { 13 } else { 8 };
-    match random.below(sorts) {
+    match random.below(13) {
         0 | 1 => disks::scattered(&mut case, &mut random)?,
         2 => disks::near_full(&mut case, &mut random)?,
         3 => disks::full_directory(&mut case, &mut random)?,

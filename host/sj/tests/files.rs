@@ -9,9 +9,6 @@ use model::random::Random;
 
 #[test]
 fn samples_go_to_wav_and_back() {
-    if !skilletjay::FILES {
-        return;
-    }
     let (folder, mut random) = (Folder::new("wav"), Random::new(1));
     for kind in [Kind::S900, Kind::S1000] {
         for words in [0, 2, 1000, 40_000] {
@@ -28,9 +25,6 @@ fn samples_go_to_wav_and_back() {
 
 #[test]
 fn a_shorter_wav_cuts_the_markers() {
-    if !skilletjay::FILES {
-        return;
-    }
     let (folder, mut random) = (Folder::new("shorter"), Random::new(2));
     for kind in [Kind::S900, Kind::S1000] {
         for (name, words) in [("long", 500), ("short", 20)] {
@@ -45,9 +39,6 @@ fn a_shorter_wav_cuts_the_markers() {
 
 #[test]
 fn other_samples_are_refused() {
-    if !skilletjay::FILES {
-        return;
-    }
     let (folder, mut random) = (Folder::new("samples-refused"), Random::new(3));
     folder.write("s900", &files::sample(Kind::S900, 4, &mut random));
     folder.write("s1000", &files::sample(Kind::S1000, 4, &mut random));
@@ -71,9 +62,6 @@ fn other_samples_are_refused() {
 
 #[test]
 fn programs_are_checked() {
-    if !skilletjay::FILES {
-        return;
-    }
     let (folder, mut random) = (Folder::new("program"), Random::new(4));
     let mut file = files::program(3, &mut random);
     folder.write("p", &file);

@@ -6,9 +6,6 @@
 use crate::raw::{self, Checked, Done, Found, Listed, Paged};
 use std::ptr;
 
-#[cfg(not(files))]
-pub use crate::absent::*;
-#[cfg(files)]
 pub use crate::lend_files::*;
 
 /// The header lets an empty slice be a null pointer; Rust's would point to nothing in particular.

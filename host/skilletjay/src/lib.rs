@@ -23,12 +23,9 @@
 //! A large file is best taken page by page, with [`Image::download`]. Sample and program files have their own
 //! modules, [`sample`] and [`program`].
 
-#[cfg(not(files))]
-mod absent;
 mod download;
 mod image;
 pub mod lend;
-#[cfg(files)]
 mod lend_files;
 pub mod program;
 pub mod raw;
@@ -38,8 +35,3 @@ pub mod sample;
 pub use download::Download;
 pub use image::{BLOCK, Checked, Density, Entry, Image, Kind, Paged, SLOTS, Slot};
 pub use refusal::{Place, Refusal};
-
-/// Whether the archive has the sample and program functions; without them each refuses by [`ABSENT`].
-pub const FILES: bool = cfg!(files);
-/// The number that stands for a function which the archive doesn't have.
-pub const ABSENT: u32 = u32::MAX;

@@ -8,7 +8,7 @@ pub fn check(file: &[u8]) -> Result<usize, Refusal> {
     Refusal::or(told.refusal, told.place, told.count)
 }
 
-#[cfg(all(test, files))]
+#[cfg(test)]
 mod tests {
     use super::*;
 

@@ -90,10 +90,6 @@ unsafe extern "C" {
         out: *mut u8,
         out_len: usize,
     ) -> usize;
-}
-
-#[cfg(files)]
-unsafe extern "C" {
     pub fn sj_s900_unpack(file: *const u8, file_len: usize, words: *mut i16, words_len: usize) -> Counted;
     pub fn sj_s900_pack(
         header: *const u8,

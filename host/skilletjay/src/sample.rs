@@ -51,7 +51,7 @@ pub fn file_of(kind: Kind, header: &[u8], words: &[i16]) -> Result<Vec<u8>, Refu
     Ok(file)
 }
 
-#[cfg(all(test, files))]
+#[cfg(test)]
 mod tests {
     use super::*;
 

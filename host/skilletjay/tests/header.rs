@@ -26,9 +26,6 @@ sj_paged (*page)(const uint8_t *, size_t, size_t, size_t, uint8_t *, size_t) = s
 sj_found (*put)(uint8_t *, size_t, const uint8_t *, size_t, uint8_t, const uint8_t *, size_t) = sj_put;
 sj_done (*take)(uint8_t *, size_t, const uint8_t *, size_t) = sj_remove;
 size_t (*run)(uint8_t *, size_t, const uint8_t *, size_t, const uint8_t *, size_t, uint8_t *, size_t) = sj_run;
-";
-
-const FILE_FUNCTIONS: &str = "
 sj_counted (*unpack[])(const uint8_t *, size_t, int16_t *, size_t) = {sj_s900_unpack, sj_s1000_unpack};
 sj_counted (*pack[])(const uint8_t *, size_t, const int16_t *, size_t, uint8_t *, size_t) = {sj_s900_pack, sj_s1000_pack};
 sj_counted (*program)(const uint8_t *, size_t) = sj_program;
@@ -41,11 +38,8 @@ fn source() -> String {
     like!(text, "sj_found", Found, "refusal" refusal, "place" place, "slot" slot);
     like!(text, "sj_paged", Paged, "refusal" refusal, "place" place, "count" count, "end" end);
     like!(text, "sj_done", Done, "refusal" refusal, "place" place);
+    like!(text, "sj_counted", Counted, "refusal" refusal, "place" place, "count" count);
     text.push_str(FUNCTIONS);
-    if skilletjay::FILES {
-        like!(text, "sj_counted", Counted, "refusal" refusal, "place" place, "count" count);
-        text.push_str(FILE_FUNCTIONS);
-    }
     text
 }
 
