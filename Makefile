@@ -1,5 +1,6 @@
-# make run: what there is to see. make test: the gate. make fuzz SECONDS=n: the library against the model on fresh seeds.
-.PHONY: run test fuzz
+# make run: what there is to see. make test: the gate. make sj: the command, host/target/release/sj.
+# make fuzz SECONDS=n: the library against the model on fresh seeds.
+.PHONY: run test library sj fuzz
 
 SECONDS ?= 60
 
@@ -12,6 +13,12 @@ run:
 test:
 	@.ci/run
 
-fuzz:
+library:
+	@mkdir -p target
 	@rt staticlib skilletjay > target/staticlib.log 2>&1 || { cat target/staticlib.log >&2; exit 1; }
+
+sj: library
+	@cd host && cargo build --offline --quiet --release -p sj
+
+fuzz: library
 	@host/run $(SECONDS)

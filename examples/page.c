@@ -1,0 +1,38 @@
+/* Pages one file of an image to standard output: page IMAGE SLOT. It ends well only if the whole file was delivered. */
+#include "skilletjay.h"
+#include <stdio.h>
+#include <stdlib.h>
+
+static uint8_t image[1638401]; /* the largest image and a byte more, so that a longer file is refused */
+
+static int refused(const char *call, uint32_t refusal, size_t place) {
+    fprintf(stderr, "%s: refusal %u at %zu\n", call, (unsigned)refusal, place);
+    return 1;
+}
+
+int main(int argc, char **argv) {
+    if (argc != 3)
+        return fputs("usage: page IMAGE SLOT\n", stderr), 2;
+    FILE *in = fopen(argv[1], "rb");
+    if (!in)
+        return perror(argv[1]), 2;
+    size_t length = fread(image, 1, sizeof image, in), slot = strtoul(argv[2], NULL, 10), offset = 0;
+    fclose(in);
+
+    sj_listed file = sj_list(image, length, slot);
+    if (file.refusal)
+        return refused("list", file.refusal, file.place);
+    fprintf(stderr, "%.12s, type %c, %zu bytes\n", (const char *)file.name, file.type, file.length);
+
+    uint8_t page[4096];
+    for (;;) {
+        sj_paged paged = sj_page(image, length, slot, offset, page, sizeof page);
+        if (paged.refusal)
+            return refused("page", paged.refusal, paged.place);
+        if (fwrite(page, 1, paged.count, stdout) != paged.count)
+            return perror("standard output"), 2;
+        offset += paged.count;
+        if (paged.end) /* every byte was delivered once, in order */
+            return fflush(stdout) ? 2 : 0;
+    }
+}
