@@ -54,12 +54,13 @@ isWhole S1000 count = true
 abbrev pub countIn : Sampler → List ℕ → ℕ
 countIn sampler header = number 4 (bytes header) (countOffset sampler)
 
+-- The bytes of a file of so many words.
 abbrev pub fileSize : Sampler → ℕ → ℕ
 fileSize sampler count = headerSize sampler + dataSize sampler count
 
 -- ---- the data
 
--- S1000 data: two bytes for each word.
+-- S1000 data: two bytes for each word; and their words.
 unfoldable pub packed1000 : List ℤ → List ℕ
 unfolding parts digits
 packed1000 words = parts (λ i. digits 2 (bitsAt 65536 words i)) 0 (length words)
@@ -84,7 +85,7 @@ headerOf sampler file = take (headerSize sampler) file
 abbrev pub wordsOf : Sampler → List ℕ → List ℤ
 wordsOf sampler file = unpacked sampler (bytes (drop (headerSize sampler) file)) (countIn sampler (headerOf sampler file))
 
--- ---- refusals
+-- ---- refusals, and their places (document 01, "The numbers given back")
 
 -- Refusal 18 in a header, by whether its number of words is right: at that number, else at the lowest offset whose rule fails.
 unfoldable pub headFault : Sampler → List ℕ → Bool → Lowest
