@@ -1,10 +1,10 @@
 -- Bytes read by their offsets through a function: lists of them, and readers that agree on a range.
 -- A definition over a reader computes on sparse bytes as on a real list. Assumes nothing.
 use mathlib.Core.Path.{_≡_, refl, sym, ap, _∙_}
-use mathlib.Core.List.{List, [], _∷_}
+use mathlib.Core.List.{List, [], _∷_, _++_}
 use mathlib.Core.Logic.{_⊎_, inl, inr}
 use Prim.Native.Nat.{ℕ, zero, suc, _+_, _-_, _≤_, _<_}
-use native.Mathlib.Nat.{le-of-suc-le-suc, not-suc-le-zero, suc-add, add-suc, add-zero}
+use native.Mathlib.Nat.{le-of-suc-le-suc, not-suc-le-zero, suc-add, add-suc, add-zero, zero-add}
 use native.Mathlib.Omega.{arith}
 use lib.ListN.{length, getD}
 use lib.Seq.{ext-getD}
@@ -55,3 +55,19 @@ tab-cong b c a n h = over-cong _ _ [] a n (λ k p q r. ap (λ (x : ℕ). x ∷ r
 pub splice-off : (l : List ℕ) (a : ℕ) (vs : List ℕ) (i : ℕ) → (i < a) ⊎ (a + length vs ≤ i) → bytes (splice l a vs) i ≡ bytes l i
 splice-off l a vs i (inl h) = getD-splice-below l a vs i h
 splice-off l a vs i (inr h) = getD-splice-past l a vs i h
+
+-- two tables, the second where the first ends
+tab-shift : (f : ℕ → ℕ) (a i n : ℕ) → tab (λ k. f (a + k)) i n ≡ tab f (a + i) n
+unfolding tab
+tab-shift f a i zero = refl
+tab-shift f a i (suc n) = ap (λ (r : List ℕ). f (a + i) ∷ r) (tab-shift f a (suc i) n ∙ ap (λ (k : ℕ). tab f k n) (add-suc a i))
+
+tab-joined : (f : ℕ → ℕ) (i a n : ℕ) → tab f i a ++ tab f (i + a) n ≡ tab f i (a + n)
+unfolding tab
+tab-joined f i zero n = rw (add-zero i, zero-add n) refl
+tab-joined f i (suc a) n = rw (suc-add a n, add-suc i a, ← suc-add i a) (ap (λ (r : List ℕ). f i ∷ r) (tab-joined f (suc i) a n))
+
+pub tab-append : (f : ℕ → ℕ) (a n : ℕ) → tab f 0 a ++ tab (λ k. f (a + k)) 0 n ≡ tab f 0 (a + n)
+tab-append f a n =
+    let e : a + 0 ≡ 0 + a = omega arith in
+    ap (λ (r : List ℕ). tab f 0 a ++ r) (tab-shift f a 0 n ∙ ap (λ (k : ℕ). tab f k n) e) ∙ tab-joined f 0 a n

@@ -9,7 +9,7 @@ use native.Mathlib.Numerals.{add-one}
 use native.Mathlib.Omega.{arith}
 use Rattle.laws.specs.declared.Lowest.{Lowest}
 use Rattle.laws.specs.declared.Lowest.the-variants.{At, Nowhere}
-use Rattle.laws.specs.Truth.{pick, both}
+use Rattle.laws.specs.Truth.{pick, both, clash}
 
 -- step at each of the n numbers from i on, the last one first
 unfoldable pub over : {A : Type 0} → (ℕ → A → A) → A → ℕ → ℕ → A
@@ -111,6 +111,20 @@ at→ f i (suc n) k e = go (at→ f (suc i) n k) (f i) refl
         let o : i ≡ k = cc in
         (omega arith, omega arith, ap f (sym o) ∙ p)
     go ih false p = let r = ih (rw p at e) in (omega (arith, r .0), omega (arith, r .1), r .2)
+
+-- no number below the lowest passes
+pub lowest-least : (f : ℕ → Bool) (i n k : ℕ) → lowest f i n ≡ At k → (j : ℕ) → i ≤ j → j < i + n → f j ≡ true → k ≤ j
+unfolding lowest
+lowest-least f i zero k e j h l t = absurd (omega arith)
+lowest-least f i (suc n) k e j h l t = go (lowest-least f (suc i) n k) (f i) refl (decLt i j)
+  where
+    go : (lowest f (suc i) n ≡ At k → (m : ℕ) → suc i ≤ m → m < suc i + n → f m ≡ true → k ≤ m) → (b : Bool) → f i ≡ b → Dec (i < j) → k ≤ j
+    go ih true p d =
+        let z : At i ≡ At k = rw p at e in
+        let o : i ≡ k = cc in
+        omega arith
+    go ih false p (yes q) = ih (rw p at e) j (omega arith) (omega arith) t
+    go ih false p (no q) = let o : i ≡ j = omega arith in absurd (clash (ap f o ∙ t) p)
 
 -- ---- a count
 

@@ -101,11 +101,15 @@ splice-comm l at [] bt us h = refl
 splice-comm l at (v ∷ vs) bt us h =
     splice-comm (set l at v) (suc at) vs bt us (omega arith) ∙ ap (λ (r : List ℕ). splice r (suc at) vs) (set-splice l at v bt us (omega arith))
 
+-- a write that goes on where another ends, whatever is written
+pub sets-append : {A : Type 0} (l : List A) (at : ℕ) (vs us : List A) → sets (sets l at vs) (at + length vs) us ≡ sets l at (vs ++ us)
+sets-append l at [] us = rw (add-zero at)
+sets-append l at (v ∷ vs) us = rw (add-suc at (length vs), ← suc-add at (length vs)) (sets-append (set l at v) (suc at) vs us)
+
 -- a write that goes on where another ends
 pub splice-append : (l : List ℕ) (at : ℕ) (vs us : List ℕ) → splice (splice l at vs) (at + length vs) us ≡ splice l at (vs ++ us)
 unfolding splice
-splice-append l at [] us = rw (add-zero at)
-splice-append l at (v ∷ vs) us = rw (add-suc at (length vs), ← suc-add at (length vs)) (splice-append (set l at v) (suc at) vs us)
+splice-append l at vs us = sets-append l at vs us
 
 -- a write over another of the same length
 pub splice-over : (l : List ℕ) (at : ℕ) (us vs : List ℕ) → length us ≡ length vs → splice (splice l at us) at vs ≡ splice l at vs

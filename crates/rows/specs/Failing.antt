@@ -10,7 +10,7 @@ use native.Mathlib.Omega.{arith}
 use lib.Dec.{leb}
 use borrow.Author.Tests.{leb-true}
 use Rattle.laws.specs.Truth.{pick, both, both-true, clash}
-use Rattle.laws.specs.Scan.{lowest, nowhere→, →nowhere, at→}
+use Rattle.laws.specs.Scan.{lowest, nowhere→, →nowhere, at→, lowest-least}
 use Rattle.laws.specs.declared.Lowest.{Lowest}
 use Rattle.laws.specs.declared.Lowest.the-variants.{At, Nowhere}
 use Rattle.rows.specs.declared.Width.{Width}
@@ -57,20 +57,6 @@ inOrder low high [] = leb low high
 inOrder low high (row ∷ rows) = both (leb low (runOf row .at)) (inOrder (endOf row) high rows)
 
 -- ---- a row
-
--- no number below the lowest passes
-lowest-least : (f : ℕ → Bool) (i n k : ℕ) → lowest f i n ≡ At k → (j : ℕ) → i ≤ j → j < i + n → f j ≡ true → k ≤ j
-unfolding lowest
-lowest-least f i zero k e j h l t = absurd (omega arith)
-lowest-least f i (suc n) k e j h l t = go (lowest-least f (suc i) n k) (f i) refl (decLt i j)
-  where
-    go : (lowest f (suc i) n ≡ At k → (m : ℕ) → suc i ≤ m → m < suc i + n → f m ≡ true → k ≤ m) → (b : Bool) → f i ≡ b → Dec (i < j) → k ≤ j
-    go ih true p d =
-        let z : At i ≡ At k = rw p at e in
-        let o : i ≡ k = cc in
-        omega arith
-    go ih false p (yes q) = ih (rw p at e) j (omega arith) (omega arith) t
-    go ih false p (no q) = let o : i ≡ j = omega arith in absurd (clash (ap f o ∙ t) p)
 
 size-least : (width : Width) (n : ℕ) → n ≤ sizeOf width * n
 size-least One n = omega arith

@@ -7,9 +7,9 @@ use native.Mathlib.Nat.{zero-add}
 use lib.IntN.{ℤ}
 use lib.ListN.{length, length-map}
 use lib.Seq.{sets}
-use Rattle.laws.specs.Splice.{splice, splice-append}
+use Rattle.laws.specs.Splice.{splice, splice-append, sets-append}
 use Rattle.laws.specs.Reader.{tab, length-tab}
-use Rattle.words.specs.Parts.{parts, length-parts, sets-append}
+use Rattle.words.specs.Parts.{parts, length-parts}
 use Rattle.words.specs.Words.{wordOf, pairAt, upperBits, packed900, firstBits, secondBits, unpacked900}
 
 pub packed-halves : (words : List ℤ) (out : List ℕ) (at : ℕ) {mid end : List ℕ} → mid ≡ splice out at (parts (pairAt words (length words / 2)) 0 (length words / 2))

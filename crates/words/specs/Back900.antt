@@ -10,8 +10,8 @@ use native.Mathlib.Omega.{arith}
 use lib.IntN.{ℤ, pos}
 use lib.ListN.{length, getD, length-append, length-map, List·getD-append}
 use lib.Seq.{getD-append-add}
-use Rattle.laws.specs.Reader.{bytes, tab, length-tab, getD-tab, tab-is, tab-cong}
-use Rattle.words.specs.Parts.{parts, length-parts, getD-parts, parts-cong, parts-pairs, tab-append}
+use Rattle.laws.specs.Reader.{bytes, tab, length-tab, getD-tab, tab-is, tab-cong, tab-append}
+use Rattle.words.specs.Parts.{parts, length-parts, getD-parts, parts-cong, parts-pairs}
 use Rattle.words.specs.Words.{wordOf, holds, bitsAt, lowBits, highBits, pairAt, upperBits, packed900, firstBits, secondBits, unpacked900}
 use Rattle.words.specs.Back.{bits-small, words-again, bits-again, held-again}
 

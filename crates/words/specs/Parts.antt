@@ -9,6 +9,7 @@ use native.Mathlib.Omega.{arith}
 use lib.ListN.{length, getD, set, length-append, List·getD-append}
 use lib.Seq.{sets, length-sets, getD-append-add}
 use Rattle.laws.specs.Scan.{over, over-end, over-next, over-cong}
+use Rattle.laws.specs.Splice.{sets-append}
 use Rattle.laws.specs.Reader.{tab}
 
 -- the parts of the n numbers from i on, one after another
@@ -55,29 +56,7 @@ parts-pairs f i (suc n) =
     let d : 2 * suc i ≡ suc (suc (2 * i)) = omega arith in
     rw (e, add-one (2 * i), parts-pairs f (suc i) n, d) refl
 
--- two tables, the second where the first ends
-tab-shift : (f : ℕ → ℕ) (a i n : ℕ) → tab (λ k. f (a + k)) i n ≡ tab f (a + i) n
-unfolding tab
-tab-shift f a i zero = refl
-tab-shift f a i (suc n) = ap (λ (r : List ℕ). f (a + i) ∷ r) (tab-shift f a (suc i) n ∙ ap (λ (k : ℕ). tab f k n) (add-suc a i))
-
-tab-joined : (f : ℕ → ℕ) (i a n : ℕ) → tab f i a ++ tab f (i + a) n ≡ tab f i (a + n)
-unfolding tab
-tab-joined f i zero n = rw (add-zero i, zero-add n) refl
-tab-joined f i (suc a) n = rw (suc-add a n, add-suc i a, ← suc-add i a) (ap (λ (r : List ℕ). f i ∷ r) (tab-joined f (suc i) a n))
-
-pub tab-append : (f : ℕ → ℕ) (a n : ℕ) → tab f 0 a ++ tab (λ k. f (a + k)) 0 n ≡ tab f 0 (a + n)
-tab-append f a n =
-    let e : a + 0 ≡ 0 + a = omega arith in
-    ap (λ (r : List ℕ). tab f 0 a ++ r) (tab-shift f a 0 n ∙ ap (λ (k : ℕ). tab f k n) e) ∙ tab-joined f 0 a n
-
 -- ---- loops that write parts
-
-module _ {A : Type 0} where
-  -- a write that goes on where another ends
-  pub sets-append : (l : List A) (at : ℕ) (vs us : List A) → sets (sets l at vs) (at + length vs) us ≡ sets l at (vs ++ us)
-  sets-append l at [] us = rw (add-zero at)
-  sets-append l at (v ∷ vs) us = rw (add-suc at (length vs), ← suc-add at (length vs)) (sets-append (set l at v) (suc at) vs us)
 
 -- l is l₀ with the parts of the numbers below i written from `at` on, each of `size` elements; n parts are due
 pub record Written {A : Type 0} (f : ℕ → List A) (size at n : ℕ) (l₀ l : List A) (i : ℕ) : Type 0 where
