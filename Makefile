@@ -1,6 +1,6 @@
 # make run: what there is to see. make test: the gate. make sj: the command, host/target/release/sj.
-# make fuzz SECONDS=n: the library against the model on fresh seeds.
-.PHONY: run test library sj fuzz
+# make fuzz SECONDS=n: the library against the model on fresh seeds. make bench: its times beside those of plain C, plain Rust and public tools.
+.PHONY: run test library sj fuzz bench
 
 SECONDS ?= 60
 
@@ -22,3 +22,6 @@ sj: library
 
 fuzz: library
 	@host/run $(SECONDS)
+
+bench:
+	@host/bench/run

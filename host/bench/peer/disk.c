@@ -1,0 +1,286 @@
+/* The disk rules of document 01 by hand in plain C: what the library's check, put and remove are timed against. Each function has
+ * the signature of the library's. */
+#include "skilletjay.h"
+
+#include <string.h>
+
+enum { BLOCK = 1024, SLOTS = 64, ENTRY = 24, MAP_AT = 1536, SYSTEM = 16384, MOST_BLOCKS = 1600, LONGEST = 16777215 };
+
+typedef struct {
+    unsigned kind, density;
+    size_t blocks, first, end_mark, letters;
+    uint8_t low, high, pad, least, most;
+} layout;
+
+typedef struct {
+    uint32_t number; /* 0: none */
+    size_t place;
+} fault;
+
+static size_t number2(const uint8_t *p) { return p[0] | (size_t)p[1] << 8; }
+
+static size_t number3(const uint8_t *p) { return number2(p) | (size_t)p[2] << 16; }
+
+static void store2(uint8_t *p, size_t value) {
+    p[0] = (uint8_t)value;
+    p[1] = (uint8_t)(value >> 8);
+}
+
+static size_t value_at(const uint8_t *image, size_t block) { return number2(image + MAP_AT + 2 * block); }
+
+static void set_value(uint8_t *image, size_t block, size_t value) { store2(image + MAP_AT + 2 * block, value); }
+
+static bool is_used(const uint8_t *entry) { return entry[16] != 0; }
+
+static bool is_link(const layout *disk, size_t value) { return disk->first <= value && value < disk->blocks; }
+
+static size_t blocks_for(size_t length) { return (length + BLOCK - 1) / BLOCK; }
+
+static bool all_identities(const uint8_t *image, size_t identity) {
+    for (int slot = 0; slot < SLOTS; slot++)
+        if (number2(image + ENTRY * slot + 22) != identity)
+            return false;
+    return true;
+}
+
+/* Refusals 1 and 2. */
+static fault read_layout(const uint8_t *image, size_t length, layout *disk) {
+    bool high = length == 1638400;
+    if (!high && length != 819200)
+        return (fault){1, 0};
+    size_t blocks = high ? 1600 : 800, first = high ? 5 : 4;
+    if (all_identities(image, 0))
+        *disk = (layout){900, high, blocks, first, 32768, 10, 32, 126, 0, 'A', 'Z'};
+    else if (all_identities(image, 0x300))
+        *disk = (layout){1000, high, blocks, first, 19152, 12, 0, 40, 32, 'a', 'z'};
+    else
+        return (fault){2, 0};
+    return (fault){0, 0};
+}
+
+static fault system_fault(const uint8_t *image, const layout *disk) {
+    if (disk->kind == 1000)
+        for (size_t block = 0; block < disk->first; block++)
+            if (value_at(image, block) != SYSTEM)
+                return (fault){3, block};
+    return (fault){0, 0};
+}
+
+static bool is_well_formed(const uint8_t *entry, const layout *disk) {
+    for (size_t i = 0; i < disk->letters; i++)
+        if (entry[i] < disk->low || entry[i] > disk->high)
+            return false;
+    for (size_t i = disk->letters; i < 16; i++)
+        if (entry[i] != disk->pad)
+            return false;
+    return disk->least <= entry[16] && entry[16] <= disk->most && number3(entry + 17) >= 1;
+}
+
+static fault form_fault(const uint8_t *image, const layout *disk) {
+    for (size_t slot = 0; slot < SLOTS; slot++) {
+        const uint8_t *entry = image + ENTRY * slot;
+        if (is_used(entry) && !is_well_formed(entry, disk))
+            return (fault){4, slot};
+    }
+    return (fault){0, 0};
+}
+
+static fault name_fault(const uint8_t *image) {
+    for (size_t slot = 1; slot < SLOTS; slot++) {
+        const uint8_t *entry = image + ENTRY * slot;
+        if (!is_used(entry))
+            continue;
+        for (const uint8_t *lower = image; lower < entry; lower += ENTRY)
+            if (is_used(lower) && memcmp(lower, entry, 16) == 0)
+                return (fault){5, slot};
+    }
+    return (fault){0, 0};
+}
+
+/* The number of a chain's first fault, 6 or 7, or 0. */
+static uint32_t walk(const uint8_t *image, const layout *disk, const uint8_t *entry) {
+    size_t block = number2(entry + 20);
+    if (!is_link(disk, block))
+        return 6;
+    for (size_t left = blocks_for(number3(entry + 17)) - 1; left > 0; left--) {
+        block = value_at(image, block);
+        if (!is_link(disk, block))
+            return block == disk->end_mark ? 7 : 6;
+    }
+    return value_at(image, block) == disk->end_mark ? 0 : 7;
+}
+
+static fault chain_fault(const uint8_t *image, const layout *disk) {
+    for (size_t slot = 0; slot < SLOTS; slot++) {
+        const uint8_t *entry = image + ENTRY * slot;
+        uint32_t number = is_used(entry) ? walk(image, disk, entry) : 0;
+        if (number != 0)
+            return (fault){number, slot};
+    }
+    return (fault){0, 0};
+}
+
+/* All chains are faultless here: each ends at its end mark. */
+static fault share_fault(const uint8_t *image, const layout *disk, bool *taken) {
+    for (size_t slot = 0; slot < SLOTS; slot++) {
+        const uint8_t *entry = image + ENTRY * slot;
+        if (!is_used(entry))
+            continue;
+        for (size_t block = number2(entry + 20); block != disk->end_mark; block = value_at(image, block)) {
+            if (taken[block])
+                return (fault){8, slot};
+            taken[block] = true;
+        }
+    }
+    return (fault){0, 0};
+}
+
+/* Counts the free blocks too. */
+static fault stray_fault(const uint8_t *image, const layout *disk, const bool *taken, size_t *free) {
+    size_t zeros = 0;
+    for (size_t block = disk->first; block < disk->blocks; block++) {
+        if (value_at(image, block) == 0)
+            zeros++;
+        else if (!taken[block])
+            return (fault){9, block};
+    }
+    *free = zeros;
+    return (fault){0, 0};
+}
+
+static size_t count_files(const uint8_t *image) {
+    size_t files = 0;
+    for (int slot = 0; slot < SLOTS; slot++)
+        files += is_used(image + ENTRY * slot);
+    return files;
+}
+
+/* Refusals 1 to 9 in their order, one rule after another. */
+static fault check(const uint8_t *image, size_t length, layout *disk, size_t *free) {
+    bool taken[MOST_BLOCKS] = {false};
+    fault found = read_layout(image, length, disk);
+    if (found.number == 0)
+        found = system_fault(image, disk);
+    if (found.number == 0)
+        found = form_fault(image, disk);
+    if (found.number == 0)
+        found = name_fault(image);
+    if (found.number == 0)
+        found = chain_fault(image, disk);
+    if (found.number == 0)
+        found = share_fault(image, disk, taken);
+    if (found.number == 0)
+        found = stray_fault(image, disk, taken, free);
+    return found;
+}
+
+sj_checked peer_check(const uint8_t *image, size_t image_len) {
+    layout disk;
+    size_t free;
+    fault found = check(image, image_len, &disk, &free);
+    if (found.number != 0)
+        return (sj_checked){found.number, found.place, 0, 0, 0, 0};
+    return (sj_checked){0, 0, disk.kind, disk.density, count_files(image), free};
+}
+
+static const char AKAII[] = "0123456789 ABCDEFGHIJKLMNOPQRSTUVWXYZ#+-.";
+
+/* A name's 16 bytes on the disk, if it is legal. */
+static bool name_area(const layout *disk, const uint8_t *name, size_t length, uint8_t *area) {
+    if (length != disk->letters)
+        return false;
+    memset(area, disk->pad, 16);
+    for (size_t i = 0; i < length; i++) {
+        const char *code = disk->kind == 1000 ? memchr(AKAII, name[i], sizeof AKAII - 1) : NULL;
+        if (disk->kind == 1000 ? code == NULL : name[i] < 32 || name[i] > 126)
+            return false;
+        area[i] = disk->kind == 1000 ? (uint8_t)(code - AKAII) : name[i];
+    }
+    return true;
+}
+
+/* The slot with a name's area, or SLOTS. */
+static size_t slot_of(const uint8_t *image, const uint8_t *area) {
+    size_t slot = 0;
+    while (slot < SLOTS && !(is_used(image + ENTRY * slot) && memcmp(image + ENTRY * slot, area, 16) == 0))
+        slot++;
+    return slot;
+}
+
+static size_t empty_slot(const uint8_t *image) {
+    size_t slot = 0;
+    while (slot < SLOTS && is_used(image + ENTRY * slot))
+        slot++;
+    return slot;
+}
+
+/* Stores content in the lowest free blocks, chains them, and gives the first. */
+static size_t store_content(uint8_t *image, const layout *disk, const uint8_t *content, size_t length) {
+    size_t block = disk->first, start = 0, last = 0;
+    for (size_t from = 0; from < length; from += BLOCK, last = block++) {
+        while (value_at(image, block) != 0)
+            block++;
+        if (from == 0)
+            start = block;
+        else
+            set_value(image, last, block);
+        size_t part = length - from < BLOCK ? length - from : BLOCK;
+        memcpy(image + BLOCK * block, content + from, part);
+        memset(image + BLOCK * block + part, 0, BLOCK - part);
+    }
+    set_value(image, last, disk->end_mark);
+    return start;
+}
+
+static sj_found refused(uint32_t number, size_t place) { return (sj_found){number, place, 0}; }
+
+sj_found peer_put(uint8_t *image, size_t image_len, const uint8_t *name, size_t name_len, uint8_t type, const uint8_t *content,
+                  size_t content_len) {
+    layout disk;
+    size_t free;
+    uint8_t area[16];
+    fault found = check(image, image_len, &disk, &free);
+    if (found.number != 0)
+        return refused(found.number, found.place);
+    if (!name_area(&disk, name, name_len, area) || type < disk.least || type > disk.most)
+        return refused(11, 0);
+    if (content_len == 0)
+        return refused(13, 0);
+    size_t taken = slot_of(image, area), slot = empty_slot(image);
+    if (taken < SLOTS)
+        return refused(12, taken);
+    if (slot == SLOTS)
+        return refused(14, 0);
+    if (blocks_for(content_len) > free)
+        return refused(15, 0);
+    if (content_len > LONGEST)
+        return refused(16, 0);
+    uint8_t *entry = image + ENTRY * slot;
+    memcpy(entry, area, 16);
+    entry[16] = type;
+    store2(entry + 17, content_len);
+    entry[19] = (uint8_t)(content_len >> 16);
+    store2(entry + 20, store_content(image, &disk, content, content_len));
+    return (sj_found){0, 0, slot};
+}
+
+sj_done peer_remove(uint8_t *image, size_t image_len, const uint8_t *name, size_t name_len) {
+    layout disk;
+    size_t free;
+    uint8_t area[16];
+    fault found = check(image, image_len, &disk, &free);
+    if (found.number != 0)
+        return (sj_done){found.number, found.place};
+    if (!name_area(&disk, name, name_len, area))
+        return (sj_done){11, 0};
+    size_t slot = slot_of(image, area);
+    if (slot == SLOTS)
+        return (sj_done){10, 0};
+    uint8_t *entry = image + ENTRY * slot;
+    for (size_t block = number2(entry + 20), next; block != disk.end_mark; block = next) {
+        next = value_at(image, block);
+        set_value(image, block, 0);
+    }
+    memset(entry, 0, 22);
+    return (sj_done){0, 0};
+}

@@ -1,0 +1,95 @@
+//! The peer must do the library's work: both answer alike, on good disks and files and on faulty ones.
+
+use crate::calls::{LIBRARY, PEER};
+use model::faults::{self, FAULTS};
+use model::files;
+use model::layout::{Kind, LAYOUTS};
+use model::maker::{self, Plan};
+use model::random::Random;
+
+/// Compares both sides on some thousands of disks and files; gives how many. Panics where they part.
+pub fn hold() -> usize {
+    let mut compared = 0;
+    for seed in 0..120 {
+        let mut random = Random::new(seed);
+        compared += disks(&mut random) + samples(&mut random);
+    }
+    compared
+}
+
+fn disks(random: &mut Random) -> usize {
+    let layout = random.pick(&LAYOUTS);
+    let plan = match random.below(3) {
+        0 => Plan::scattered(layout, random),
+        1 => Plan::near_full(random),
+        _ => Plan::full_directory(random),
+    };
+    let image = maker::disk(layout, plan, random);
+    let disk = model::disk::read(&image).expect("a maker's disk is accepted");
+    for fault in FAULTS {
+        let mut spoilt = image.clone();
+        faults::spoil(&mut spoilt, &disk, fault, random);
+        same_check(&spoilt);
+        let mut damaged = image.clone();
+        faults::damage(&mut damaged, layout, random);
+        same_check(&damaged);
+    }
+    same_check(&image);
+    changes(image, layout.kind, random);
+    2 * FAULTS.len() + 1
+}
+
+/// Both check an image alike.
+pub fn same_check(image: &[u8]) {
+    assert_eq!(LIBRARY.check(image), PEER.check(image), "check");
+}
+
+/// Puts and removes, legal and not.
+fn changes(mut image: Vec<u8>, kind: Kind, random: &mut Random) {
+    let mut copy = image.clone();
+    for _ in 0..12 {
+        let mut name = maker::legal_name(kind, random);
+        if random.one_in(8) {
+            name[3] = 200;
+        }
+        let file_type = if random.one_in(8) { b'!' } else { maker::legal_type(kind, random) };
+        let size = random.pick(&[0, 1, 1024, 1025, 50_000, 1_000_000]);
+        let content = random.bytes(size);
+        let put = LIBRARY.put(&mut image, &name, file_type, &content);
+        assert_eq!(put, PEER.put(&mut copy, &name, file_type, &content), "put");
+        if random.one_in(3) {
+            assert_eq!(LIBRARY.remove(&mut image, &name), PEER.remove(&mut copy, &name), "remove");
+        }
+        assert!(image == copy, "images part");
+    }
+}
+
+fn samples(random: &mut Random) -> usize {
+    for kind in [Kind::S900, Kind::S1000] {
+        let count = 2 * random.below(200);
+        let mut file = files::sample(kind, count, random);
+        if random.one_in(2) {
+            let at = random.below(60);
+            file[at] = random.byte();
+        }
+        let mut words = [[7i16; 402]; 2];
+        let room = random.pick(&[402, count, count / 2]);
+        let [ours, theirs] = &mut words;
+        let unpacked = LIBRARY.unpack(kind, &file, &mut ours[..room]);
+        assert_eq!(unpacked, PEER.unpack(kind, &file, &mut theirs[..room]), "unpack");
+        assert_eq!(ours, theirs, "words");
+        if kind == Kind::S900 && random.one_in(3) && count > 0 {
+            ours[random.below(count)] = random.pick(&[2048, -2049]);
+        }
+        packed(kind, &file, &ours[..count]);
+    }
+    4
+}
+
+fn packed(kind: Kind, file: &[u8], words: &[i16]) {
+    let header = &file[..model::samples::header_bytes(kind)];
+    let mut outs = [vec![9u8; file.len() + 3], vec![9u8; file.len() + 3]];
+    let [ours, theirs] = &mut outs;
+    assert_eq!(LIBRARY.pack(kind, header, words, ours), PEER.pack(kind, header, words, theirs), "pack");
+    assert_eq!(ours, theirs, "files");
+}

@@ -1,0 +1,57 @@
+//! Pages of a file of 1.5 MB against plain Rust and against memcpy.
+
+use crate::calls::PEER;
+use crate::disks::{Order, disk};
+use crate::race::{race, timed};
+use crate::{reader, table};
+use model::layout::{BLOCK, Kind};
+use skilletjay::lend;
+
+const BLOCKS: usize = 1536;
+const LENGTH: usize = BLOCK * BLOCKS;
+
+/// Times the whole file in pages of some sizes.
+pub fn run() {
+    let image = &disk(Kind::S1000, 1, BLOCKS, Order::Rising);
+    let content = image[5 * BLOCK..][..LENGTH].to_vec();
+    for (size, rust, copy) in
+        [(1 << 10, None, None), (4 << 10, None, None), (64 << 10, Some(1.2), None), (LENGTH, None, Some(2.0))]
+    {
+        let mut outs = [vec![0; LENGTH], vec![0; LENGTH], vec![0; LENGTH], vec![0; LENGTH]];
+        let [library, checked, unchecked, copied] = &mut outs;
+        let mut runners = [
+            timed(|| pages(library, size, |at, out| lend::page(image, 0, at, out).count)),
+            timed(|| pages(checked, size, |at, out| checked_page(image, at, out))),
+            timed(|| {
+                pages(unchecked, size, |at, out| reader::page(image, 0, at, out).map_or(0, |page| page.0))
+            }),
+            timed(|| copied.copy_from_slice(&content)),
+        ];
+        let taken = race(&mut runners);
+        drop(runners);
+        assert!(outs.iter().all(|out| *out == content), "pages part");
+        let what = match size {
+            LENGTH => "page 1.5 MB, whole".into(),
+            _ => format!("page 1.5 MB, {} KiB each", size / BLOCK),
+        };
+        table::ratio(&what, &taken[0], "Rust, each page checked by C", &taken[1], rust);
+        table::ratio(&what, &taken[0], "Rust, no check", &taken[2], None);
+        table::ratio(&what, &taken[0], "memcpy of the whole", &taken[3], copy);
+    }
+}
+
+/// Fills an output page by page.
+fn pages(out: &mut [u8], size: usize, mut page: impl FnMut(usize, &mut [u8]) -> usize) {
+    let mut at = 0;
+    for part in out.chunks_mut(size) {
+        at += page(at, part);
+    }
+}
+
+/// The plain reader, with the check that each page of the library has.
+fn checked_page(image: &[u8], at: usize, out: &mut [u8]) -> usize {
+    if PEER.check(image).refusal != 0 {
+        return 0;
+    }
+    reader::page(image, 0, at, out).map_or(0, |page| page.0)
+}

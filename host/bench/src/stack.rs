@@ -1,0 +1,83 @@
+//! The largest stack that a call uses.
+
+use crate::calls::LIBRARY;
+use crate::disks::{Order, disk, high, name};
+use crate::table;
+use model::files;
+use model::layout::Kind;
+use model::random::Random;
+use skilletjay::{lend, raw};
+use std::ffi::c_void;
+use std::hint::black_box;
+
+unsafe extern "C" {
+    fn stack_used(run: extern "C" fn(*mut c_void), with: *mut c_void) -> usize;
+}
+
+extern "C" fn run_call<F: FnMut()>(call: *mut c_void) {
+    // SAFETY: `used` gives the address of an F that it alone holds.
+    let call = unsafe { &mut *call.cast::<F>() };
+    call();
+}
+
+/// The bytes of stack that a call uses on a thread of its own, the thread's part too.
+fn used<F: FnMut()>(mut call: F) -> usize {
+    // SAFETY: the call outlives the thread, which has ended when the function returns.
+    unsafe { stack_used(run_call::<F>, (&raw mut call).cast()) }
+}
+
+/// Measures every call of the header, each where it is done.
+pub fn run() {
+    let own = used(|| {});
+    let mut calls = disk_calls();
+    calls.extend(file_calls());
+    let (call, most) = calls.into_iter().max_by_key(|&(_, bytes)| bytes).expect("some calls");
+    let bytes = most - own;
+    let kib = format!("{:.1} KiB", bytes as f64 / 1024.0);
+    table::limit(&format!("largest stack: {call}"), &kib, "", "below 64 KiB", own > 0 && bytes < 64 << 10);
+}
+
+fn disk_calls() -> Vec<(&'static str, usize)> {
+    let (kind, blocks) = (Kind::S1000, high(Kind::S1000).data_blocks());
+    let mut image = disk(kind, 63, blocks - 8, Order::Scattered);
+    let (held, put, content) = (name(kind, 5), name(kind, 90), vec![1; 8000]);
+    let (mut out, mut answers) = (vec![0; 1 << 16], vec![0; 1044]);
+    let pool = [put.clone(), content.clone()].concat();
+    // Puts the content, which stands in the pool after the name.
+    let script = [4, b's', 0, 0, 0, 0, 0, 0, 12, 0, 0, 0, 12, 0, 0, 0, 64, 31, 0, 0];
+    vec![
+        ("check", used(|| assert_eq!(LIBRARY.check(&image).refusal, 0))),
+        ("list", used(|| assert_eq!(lend::list(&image, 5).refusal, 0))),
+        ("find", used(|| assert_eq!(find(&image, &held), 0))),
+        ("page", used(|| assert_eq!(lend::page(&image, 5, 0, &mut out).refusal, 0))),
+        ("put", used(|| assert_eq!(LIBRARY.put(&mut image, &put, b's', &content).refusal, 0))),
+        ("remove", used(|| assert_eq!(LIBRARY.remove(&mut image, &put).refusal, 0))),
+        ("run", used(|| assert_eq!(run_script(&mut image, &script, &pool, &mut answers), 1))),
+    ]
+}
+
+/// Not by `lend`, which copies the name: that would be counted too.
+fn find(image: &[u8], name: &[u8]) -> u32 {
+    // SAFETY: both are readable for their lengths and lie apart.
+    unsafe { raw::sj_find(image.as_ptr(), image.len(), name.as_ptr(), name.len()).refusal }
+}
+
+fn run_script(image: &mut [u8], script: &[u8], pool: &[u8], out: &mut [u8]) -> usize {
+    let (image, length, out, room) = (image.as_mut_ptr(), image.len(), out.as_mut_ptr(), out.len());
+    // SAFETY: all four are lent for their lengths and lie apart.
+    unsafe { raw::sj_run(image, length, script.as_ptr(), script.len(), pool.as_ptr(), pool.len(), out, room) }
+}
+
+fn file_calls() -> Vec<(&'static str, usize)> {
+    let mut calls = Vec::new();
+    for kind in [Kind::S900, Kind::S1000] {
+        let file = files::sample(kind, 1000, &mut Random::new(5));
+        let (mut words, mut out) = (vec![0; 1000], vec![0; file.len()]);
+        calls.push(("unpack", used(|| assert_eq!(LIBRARY.unpack(kind, &file, &mut words).refusal, 0))));
+        let header = &file[..model::samples::header_bytes(kind)];
+        calls.push(("pack", used(|| assert_eq!(LIBRARY.pack(kind, header, &words, &mut out).refusal, 0))));
+    }
+    let program = files::program(99, &mut Random::new(6));
+    calls.push(("program", used(|| assert_eq!(black_box(lend::program(&program)).count, 99))));
+    calls
+}
