@@ -3,13 +3,13 @@
 use crate::calls::{Calls, LIBRARY, PEER};
 use crate::disks::{Order, disk, name};
 use crate::race::{Runner, race};
-use crate::table;
+use crate::table::Table;
 use model::layout::Kind;
 use model::random::Random;
 use std::time::{Duration, Instant};
 
 /// Times a put and a remove by turns, on a disk with 32 files whose free blocks lie scattered.
-pub fn run() {
+pub fn run(table: &mut Table) {
     for (size, said) in [(1000, "1 KB"), (1_000_000, "1 MB")] {
         let content = &Random::new(3).bytes(size);
         let name = &name(Kind::S1000, 90);
@@ -23,7 +23,7 @@ pub fn run() {
             let taken = race(&mut runners);
             drop(runners);
             assert!(ours == theirs, "images part");
-            table::ratio(&format!("{what} {said}"), &taken[0], "C", &taken[1], Some(1.3));
+            table.ratio(&format!("{what} {said}"), &taken[0], "C", &taken[1], Some(1.3));
         }
     }
 }

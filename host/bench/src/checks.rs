@@ -4,20 +4,20 @@ use crate::agree::same_check;
 use crate::calls::{LIBRARY, PEER};
 use crate::disks::{Order, disk, high};
 use crate::race::{race, timed};
-use crate::table;
+use crate::table::Table;
 use model::layout::Kind;
 
 /// Times the check of high density disks, their maps full where there are files.
-pub fn run() {
+pub fn run(table: &mut Table) {
     for kind in [Kind::S900, Kind::S1000] {
         for files in [0, 8, 64] {
-            check(kind, files, Order::Rising);
+            check(table, kind, files, Order::Rising);
         }
-        check(kind, 64, Order::Scattered);
+        check(table, kind, 64, Order::Scattered);
     }
 }
 
-fn check(kind: Kind, files: usize, order: Order) {
+fn check(table: &mut Table, kind: Kind, files: usize, order: Order) {
     let image = &disk(kind, files, if files == 0 { 0 } else { high(kind).data_blocks() }, order);
     same_check(image);
     assert_eq!(LIBRARY.check(image).files, files);
@@ -28,6 +28,6 @@ fn check(kind: Kind, files: usize, order: Order) {
     ]);
     let scattered = if order == Order::Scattered { ", scattered" } else { "" };
     let what = format!("check {kind:?}, files {files}{scattered}");
-    table::ratio(&what, &taken[0], "C", &taken[1], Some(1.0));
-    table::ratio(&what, &taken[0], "model", &taken[2], None);
+    table.ratio(&what, &taken[0], "C", &taken[1], Some(1.0));
+    table.ratio(&what, &taken[0], "model", &taken[2], None);
 }

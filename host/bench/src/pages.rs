@@ -3,7 +3,8 @@
 use crate::calls::PEER;
 use crate::disks::{Order, disk};
 use crate::race::{race, timed};
-use crate::{reader, table};
+use crate::reader;
+use crate::table::Table;
 use model::layout::{BLOCK, Kind};
 use skilletjay::lend;
 
@@ -11,7 +12,7 @@ const BLOCKS: usize = 1536;
 const LENGTH: usize = BLOCK * BLOCKS;
 
 /// Times the whole file in pages of some sizes.
-pub fn run() {
+pub fn run(table: &mut Table) {
     let image = &disk(Kind::S1000, 1, BLOCKS, Order::Rising);
     let content = image[5 * BLOCK..][..LENGTH].to_vec();
     for (size, rust, copy) in
@@ -34,9 +35,9 @@ pub fn run() {
             LENGTH => "page 1.5 MB, whole".into(),
             _ => format!("page 1.5 MB, {} KiB each", size / BLOCK),
         };
-        table::ratio(&what, &taken[0], "Rust, each page checked by C", &taken[1], rust);
-        table::ratio(&what, &taken[0], "Rust, no check", &taken[2], None);
-        table::ratio(&what, &taken[0], "memcpy of the whole", &taken[3], copy);
+        table.ratio(&what, &taken[0], "Rust, each page checked by C", &taken[1], rust);
+        table.ratio(&what, &taken[0], "Rust, no check", &taken[2], None);
+        table.ratio(&what, &taken[0], "memcpy of the whole", &taken[3], copy);
     }
 }
 

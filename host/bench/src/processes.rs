@@ -2,36 +2,43 @@
 
 use crate::calls::LIBRARY;
 use crate::disks::{Order, disk};
-use crate::race::{Runner, Spread, race, timed};
-use crate::table;
+use crate::race::{Runner, race};
+use crate::table::Table;
 use model::layout::Kind;
 use model::random::Random;
 use std::fs::{self, File};
 use std::io;
 use std::path::{Path, PathBuf};
 use std::process::{Command, Stdio};
+use std::time::Instant;
 
 const FILES: usize = 32;
 const LENGTH: usize = 44_000;
 
-/// Races the listing program and `sj` with dosfstools and mtools. `bin` is where `sj` is.
-pub fn run(root: &Path, bin: &Path) -> io::Result<()> {
+/// Races the listing program and `sj` with dosfstools and mtools. `sj` is where the command is.
+pub fn run(table: &mut Table, root: &Path, sj: &Path) -> io::Result<()> {
     let folder = root.join("target/bench");
     let [akai, fat] = make_floppies(&folder)?;
-    let [sj, list] = [bin.join("sj"), root.join("target/bin/list")].map(|path| text(&path));
+    let [sj, list] = [sj, &root.join("target/bin/list")].map(text);
     let [ours, theirs] = ["ours", "theirs"].map(|name| text(&folder.join(name)));
     let mdir = process(&["mdir", "-i", &fat, "::"]);
     let input = akai.clone();
-    against("list, from standard input", move || fed(&list, &input), "mdir", &mdir);
-    against("sj ls", process(&[&sj, "ls", &akai]), "mdir", &mdir);
-    against("sj check", process(&[&sj, "check", &akai]), "fsck.fat -n", &process(&["fsck.fat", "-n", &fat]));
+    against(table, "list, from standard input", move || fed(&list, &input), "mdir", &mdir);
+    against(table, "sj ls", process(&[&sj, "ls", &akai]), "mdir", &mdir);
+    against(
+        table,
+        "sj check",
+        process(&[&sj, "check", &akai]),
+        "fsck.fat -n",
+        &process(&["fsck.fat", "-n", &fat]),
+    );
     for (to, [our, their], peer) in [
         ("standard output", ["-", "-"], "mcopy"),
         ("a file, synced", [&*ours, &*theirs], "mcopy, not synced"),
     ] {
         let get = process(&[&sj, "get", &akai, "FILE 05", "-o", our]);
         let copy = process(&["mcopy", "-n", "-o", "-i", &fat, "::FILE05", their]);
-        against(&format!("sj get to {to}"), get, peer, &copy);
+        against(table, &format!("sj get to {to}"), get, peer, &copy);
     }
     assert!(fs::read(&ours)? == fs::read(&theirs)?, "copies part");
     Ok(())
@@ -75,16 +82,29 @@ fn fed(program: &str, image: &str) -> io::Result<()> {
     succeed(Command::new(program).stdin(File::open(image)?))
 }
 
-/// Races two processes; what /bin/true takes is taken from both.
-fn against(what: &str, ours: impl Fn() -> io::Result<()>, peer: &str, theirs: &impl Fn() -> io::Result<()>) {
-    let idle = process(&["/bin/true"]);
-    let mut runners: [Runner; 3] = [
-        timed(|| ours().expect("ours runs")),
-        timed(|| theirs().expect("theirs runs")),
-        timed(|| idle().expect("true runs")),
-    ];
-    let taken = race(&mut runners);
-    let own = Spread::of(taken[2].clone()).median;
-    let [ours, theirs] = [0, 1].map(|at| taken[at].iter().map(|time| time - own).collect::<Vec<f64>>());
-    table::faster(what, &ours, peer, &theirs);
+/// Races two processes; what /bin/true takes in the same round is taken from both.
+fn against(
+    table: &mut Table,
+    what: &str,
+    ours: impl Fn() -> io::Result<()>,
+    peer: &str,
+    theirs: &impl Fn() -> io::Result<()>,
+) {
+    let taken = race(&mut [middle(ours), middle(theirs), middle(process(&["/bin/true"]))]);
+    let above =
+        |at: usize| -> Vec<f64> { taken[at].iter().zip(&taken[2]).map(|(time, own)| time - own).collect() };
+    table.faster(what, &above(0), peer, &above(1));
+}
+
+/// Runs a process five times and counts the median, so that one that was interrupted doesn't tell.
+fn middle<'a>(run: impl Fn() -> io::Result<()> + 'a) -> Runner<'a> {
+    Box::new(move |times| {
+        let mut taken = [(); 5].map(|()| {
+            let begin = Instant::now();
+            run().expect("the process succeeds");
+            begin.elapsed()
+        });
+        taken.sort_unstable();
+        taken[2] * times
+    })
 }

@@ -26,8 +26,11 @@ pub fn timed<'a, T>(mut call: impl FnMut() -> T + 'a) -> Runner<'a> {
 /// Seconds for one call, for each runner and each round.
 pub fn race(runners: &mut [Runner]) -> Vec<Vec<f64>> {
     let times: Vec<u32> = runners.iter_mut().map(times_for).collect();
-    let round: Duration = runners.iter_mut().zip(&times).map(|(runner, &times)| runner(times)).sum();
-    let rounds = (RACE.as_nanos() / round.as_nanos()) as usize;
+    let begin = Instant::now();
+    for (runner, &times) in runners.iter_mut().zip(&times) {
+        runner(times);
+    }
+    let rounds = (RACE.as_nanos() / begin.elapsed().as_nanos()) as usize;
     let mut seconds = vec![Vec::new(); runners.len()];
     for round in 0..rounds.clamp(ROUNDS.0, ROUNDS.1) {
         for turn in 0..runners.len() {

@@ -2,7 +2,7 @@
 
 use crate::calls::LIBRARY;
 use crate::disks::{Order, disk, high, name};
-use crate::table;
+use crate::table::Table;
 use model::files;
 use model::layout::Kind;
 use model::random::Random;
@@ -27,14 +27,14 @@ fn used<F: FnMut()>(mut call: F) -> usize {
 }
 
 /// Measures every call of the header, each where it is done.
-pub fn run() {
+pub fn run(table: &mut Table) {
     let own = used(|| {});
     let mut calls = disk_calls();
     calls.extend(file_calls());
     let (call, most) = calls.into_iter().max_by_key(|&(_, bytes)| bytes).expect("some calls");
     let bytes = most - own;
     let kib = format!("{:.1} KiB", bytes as f64 / 1024.0);
-    table::limit(&format!("largest stack: {call}"), &kib, "", "below 64 KiB", own > 0 && bytes < 64 << 10);
+    table.limit(&format!("largest stack: {call}"), &kib, "", "below 64 KiB", own > 0 && bytes < 64 << 10);
 }
 
 fn disk_calls() -> Vec<(&'static str, usize)> {
