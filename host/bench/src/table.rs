@@ -71,7 +71,7 @@ fn race_line(what: &str, ours: &[f64], peer: &str, ratio: Spread, limit: &str, v
 }
 
 fn line(cells: [&str; 7]) {
-    let widths = [32, 9, 28, 5, 16, 12, 6];
+    let widths = [32, 9, 28, 5, 17, 12, 6];
     let padded: Vec<String> =
         cells.iter().zip(widths).map(|(cell, width)| format!(" {cell:<width$} ")).collect();
     println!("|{}|", padded.join("|"));
