@@ -159,8 +159,8 @@ impl<B: AsRef<[u8]>> Image<B> {
     /// # Ok::<(), skilletjay::Refusal>(())
     /// ```
     pub fn entries(&self) -> Result<Vec<Entry>, Refusal> {
-        self.check()?;
-        Ok((0..SLOTS).filter_map(|slot| self.list(Slot(slot)).ok()).collect())
+        let files = self.check()?.files;
+        Ok((0..SLOTS).filter_map(|slot| self.list(Slot(slot)).ok()).take(files).collect())
     }
 
     /// The slot of the file with a name, in ASCII with its spaces: 11, 10.
