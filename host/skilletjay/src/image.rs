@@ -182,9 +182,11 @@ impl<B: AsRef<[u8]>> Image<B> {
 
     /// A file's whole content.
     pub fn read(&self, slot: Slot) -> Result<Vec<u8>, Refusal> {
-        let mut content = vec![0; self.list(slot)?.length];
+        // No file is as long as its image. One page is one check, and zeros that stay untouched cost no memory.
+        let mut content = vec![0; self.bytes().len()];
         let paged = self.page(slot, 0, &mut content)?;
         content.truncate(paged.count);
+        content.shrink_to_fit();
         Ok(content)
     }
 }

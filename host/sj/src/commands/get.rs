@@ -7,7 +7,7 @@ use crate::save::Draft;
 use crate::{image_file, output};
 use skilletjay::{Entry, Image, Slot};
 use std::collections::HashSet;
-use std::ffi::OsString;
+use std::ffi::{OsStr, OsString};
 use std::fs;
 use std::path::{Path, PathBuf};
 
@@ -40,9 +40,11 @@ fn get_one(
         Some(slot) => slot,
         None => image.find(kind.padded(which)).map_err(refused)?,
     };
+    if to.as_deref() == Some(OsStr::new("-")) {
+        return output::write(&image.read(slot).map_err(refused)?);
+    }
     let entry = image.list(slot).map_err(refused)?;
     match to {
-        Some(to) if to == "-" => output::write(&image.read(slot).map_err(refused)?),
         Some(to) => download(path, image, &entry, Path::new(&to)),
         None => {
             let to = PathBuf::from(file_name(&entry));
