@@ -18,8 +18,11 @@ pub fn read_up_to(path: &Path, most: u64) -> Result<Vec<u8>, Failure> {
 }
 
 fn read_open(file: &File, path: &Path, most: u64) -> Result<Vec<u8>, Failure> {
-    let mut bytes = Vec::new();
-    file.take(most + 1).read_to_end(&mut bytes).map_err(|error| Failure::file(path, error))?;
+    let failed = |error| Failure::file(path, error);
+    // Room for all of the file and one byte more, so that the buffer needn't grow.
+    let length = file.metadata().map_err(failed)?.len().min(most);
+    let mut bytes = Vec::with_capacity(length as usize + 1);
+    file.take(most + 1).read_to_end(&mut bytes).map_err(failed)?;
     Ok(bytes)
 }
 
