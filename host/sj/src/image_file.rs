@@ -1,4 +1,5 @@
-//! Image files: read, and changed so that the old image or the new one is there at any time.
+//! Image files: read whole or as far as their directory, and changed so that the old image or the new one is there
+//! at any time.
 
 use crate::failure::Failure;
 use crate::save::Draft;
@@ -8,8 +9,14 @@ use std::io::Read;
 use std::os::unix::fs::MetadataExt;
 use std::path::{Path, PathBuf};
 
+/// The lengths of images, low density and high.
+const LENGTHS: [u64; 2] = [819_200, MOST];
+
 /// No image is longer; one byte more is enough to see that a file is no image.
 const MOST: u64 = 1_638_400;
+
+/// Directory and map lie in so many bytes of any image.
+const HEAD: usize = 5_120;
 
 /// Reads a file up to a length and one byte more.
 pub fn read_up_to(path: &Path, most: u64) -> Result<Vec<u8>, Failure> {
@@ -29,6 +36,24 @@ fn read_open(file: &File, path: &Path, most: u64) -> Result<Vec<u8>, Failure> {
 /// Reads an image.
 pub fn read(path: &Path) -> Result<Image, Failure> {
     Ok(Image::new(read_up_to(path, MOST)?))
+}
+
+/// Reads as much of an image as its check and its listing need. The rest is zeros, so no file's content may be taken
+/// from it.
+///
+/// The library's answers are those on the whole image: the length and the first 5,120 bytes decide the check
+/// (`head-decides` in rules/specs/Head.antt), and a slot lies in the directory, which is a part of them. Zeros that
+/// nobody reads cost no memory. What is no plain file, or not as long as an image, is read as [`read`] does.
+pub fn read_head(path: &Path) -> Result<Image, Failure> {
+    let failed = |error| Failure::file(path, error);
+    let mut file = File::open(path).map_err(failed)?;
+    let about = file.metadata().map_err(failed)?;
+    if !about.is_file() || !LENGTHS.contains(&about.len()) {
+        return Ok(Image::new(read_open(&file, path, MOST)?));
+    }
+    let mut bytes = vec![0; about.len() as usize];
+    file.read_exact(&mut bytes[..HEAD]).map_err(failed)?;
+    Ok(Image::new(bytes))
 }
 
 /// Changes an image: one run after another, and no byte of the file is written in place.

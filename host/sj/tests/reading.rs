@@ -2,11 +2,13 @@
 
 mod common;
 
-use common::{Folder, disk};
+use common::{Folder, Ran, disk};
 use model::calls;
 use model::disk::{content, read};
 use model::layout::{LAYOUTS, Layout};
+use model::random::Random;
 use std::fs;
+use std::process::Command;
 
 const S900_LOW: Layout = LAYOUTS[0];
 const S1000_HIGH: Layout = LAYOUTS[3];
@@ -26,6 +28,46 @@ fn check_tells_each_image_and_the_worst_status() {
     assert_eq!((ran.status, ran.out.starts_with(b"a.img: S900 low")), (Some(2), true));
     assert!(ran.err.contains("none.img") && ran.err.contains("short.img"), "{}", ran.err);
     folder.sj(&["check"]).failed(2, &["the image is missing", "--help"]);
+}
+
+/// Only the head of a plain file is read. A pipe has no length to tell, and other lengths need no image.
+#[test]
+fn check_and_ls_tell_the_same_of_files_and_pipes() {
+    let folder = Folder::new("pipes");
+    let mut random = Random::new(5);
+    for layout in LAYOUTS {
+        for turn in 0..12 {
+            let mut image = disk(layout, 9, 50, turn);
+            if turn > 0 {
+                image[random.below(5120)] ^= 1 << random.below(8);
+            }
+            folder.write("a.img", &image);
+            for command in ["check", "ls"] {
+                let piped = format!("cat a.img | {} {command} /dev/stdin", env!("CARGO_BIN_EXE_sj"));
+                let piped = Command::new("sh").arg("-c").arg(piped).current_dir(&folder.0).output();
+                let (piped, plain) = (Ran::of(piped.expect("sh runs")), folder.sj(&[command, "a.img"]));
+                let named = |text: &str| text.replace("/dev/stdin", "a.img");
+                let out = String::from_utf8(piped.out).expect("text");
+                assert_eq!((piped.status, named(&out).into_bytes()), (plain.status, plain.out));
+                assert_eq!(named(&piped.err), plain.err);
+                assert_eq!(plain.status == Some(0), calls::check(&image).is_ok());
+            }
+        }
+    }
+}
+
+#[test]
+fn other_lengths_are_refused() {
+    let folder = Folder::new("lengths");
+    let path = folder.0.join("a.img");
+    let file = fs::File::create(&path).expect("created");
+    for length in [0, 5119, 5120, 819_199, 819_201, 1_638_399, 1_638_401, 1 << 40] {
+        if file.set_len(length).is_ok() {
+            folder.sj(&["check", "a.img"]).failed(1, &["a.img", "refusal 1"]);
+            folder.sj(&["ls", "a.img"]).failed(1, &["a.img", "refusal 1"]);
+        }
+    }
+    folder.sj(&["check", "."]).failed(2, &["directory"]);
 }
 
 #[test]

@@ -32,7 +32,7 @@ pub fn run(arguments: &mut Arguments) -> Result<(), Failure> {
 }
 
 fn line(path: &Path) -> Result<String, Failure> {
-    let image = image_file::read(path)?;
+    let image = image_file::read_head(path)?;
     let checked = image.check().map_err(|refusal| Failure::refused(path.display(), refusal))?;
     let (kind, density) = (checked.kind, checked.density);
     Ok(format!("{}: {kind} {density}, files {}, free {}\n", path.display(), checked.files, checked.free))

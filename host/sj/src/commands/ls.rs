@@ -11,9 +11,10 @@ pub fn run(arguments: &mut Arguments) -> Result<(), Failure> {
     let as_json = arguments.flag("--json");
     let path = arguments.path("the image")?;
     arguments.end()?;
-    let image = image_file::read(&path)?;
+    let image = image_file::read_head(&path)?;
     let refused = |refusal| Failure::refused(path.display(), refusal);
-    let (checked, entries) = (image.check().map_err(refused)?, image.entries().map_err(refused)?);
+    let checked = image.check().map_err(refused)?;
+    let entries = image.entries().map_err(refused)?;
     output::say(&if as_json { in_json(&checked, &entries) } else { in_lines(&checked, &entries) })
 }
 
