@@ -192,7 +192,7 @@ fn rows_fault(
     let mut i = first;
     while i < end {
         let row = rows[i];
-        let fault = rows::run_fault(header, base, rows::run_of(row));
+        let fault = rows::row_fault(header, base, row);
         if let laws::Lowest::At(place) = fault {
             return laws::Lowest::At(place);
         }

@@ -10,7 +10,7 @@ use lib.Dec.{leb, eqb}
 use lib.ListN.{length, getD, take, drop}
 use lib.Seq.{drop-cons}
 use borrow.Author.Tests.{le-leb, lt-leb, eq-eqb, ne-eqb}
-use Rattle.laws.specs.Scan.{lowest}
+use Rattle.laws.specs.Scan.{lowest, lowest-stop, lowest-on, lowest-end}
 use Rattle.laws.specs.Reader.{bytes}
 use Rattle.laws.specs.declared.Lowest.{Lowest}
 use Rattle.laws.specs.declared.Lowest.the-variants.{At, Nowhere}
@@ -21,7 +21,7 @@ use Rattle.rows.specs.declared.Rule.the-variants.{From, Within, OrOff, O
 use Rattle.rows.specs.declared.Row.{Row}
 use Rattle.rows.specs.declared.Row.the-variants.{Only}
 use Rattle.rows.specs.declared.Run.{Run}
-use Rattle.rows.specs.Rows.{sizeOf, runOf, legal, Read, keeps, breaks, placeOf, placed, runFault, orElse, rowsFault}
+use Rattle.rows.specs.Rows.{sizeOf, byteRun, legal, Read, keeps, breaks, placeOf, placed, runFault, rowFault, orElse, rowsFault}
 
 -- ---- a number
 
@@ -95,6 +95,18 @@ module _ (header : List ℕ) (base : ℕ) (run : Run) where
   unfolding runFault
   run-clean e s = ap (placed base run) (rw e at s)
 
+-- ---- a row of one byte
+
+module _ (header : List ℕ) (base at : ℕ) (rule : Rule) where
+  byte-by : {place v : ℕ} {b : Bool} → place ≡ at → v ≡ number 1 (bytes header) place → b ≡ legal header base 1 rule v → (t : Bool) → b ≡ t → breaks header base (byteRun at rule) 0 ≡ not t
+  byte-by {place} p e k t h = let z : place ≡ place + 1 * 0 = omega arith in sym (breaks-by header base (byteRun at rule) 0 p z e k t h)
+
+  pub byte-stop : {place v : ℕ} {b : Bool} → place ≡ at → v ≡ number 1 (bytes header) place → b ≡ legal header base 1 rule v → b ≡ false → At (base + place) ≡ runFault header base (byteRun at rule)
+  byte-stop p e k h = run-stop header base (byteRun at rule) refl (sym (lowest-stop _ 0 1 (omega arith) (byte-by p e k false h))) (ap (λ (x : ℕ). base + x) p)
+
+  pub byte-clean : {place v : ℕ} {b : Bool} → place ≡ at → v ≡ number 1 (bytes header) place → b ≡ legal header base 1 rule v → b ≡ true → Nowhere ≡ runFault header base (byteRun at rule)
+  byte-clean p e k h = run-clean header base (byteRun at rule) refl (sym (lowest-on _ 0 1 (omega arith) (byte-by p e k true h) ∙ lowest-end _ 1 1 (omega arith)))
+
 -- ---- a table: the rows from `first` on, below `end`
 
 -- what an array of rows has past its end
@@ -106,27 +118,27 @@ abbrev pub RestOf : List ℕ → ℕ → List Row → ℕ → ℕ → ℕ → Ty
 RestOf header base rows first end i = rowsFault header base (take (end - i) (drop i rows)) ≡ rowsFault header base (take (end - first) (drop first rows))
 
 module _ (header : List ℕ) (base : ℕ) (rows : List Row) (first end i : ℕ) where
-  rest-row : {row : Row} {run : Run} {f : Lowest} → i < end → end ≤ length rows → row ≡ getD rows i noRow → run ≡ runOf row → f ≡ runFault header base run
+  rest-row : {row : Row} {f : Lowest} → i < end → end ≤ length rows → row ≡ getD rows i noRow → f ≡ rowFault header base row
       → rowsFault header base (take (end - i) (drop i rows)) ≡ orElse f (rowsFault header base (take (end - (i + 1)) (drop (i + 1) rows)))
   unfolding rowsFault
-  rest-row h l e q k =
+  rest-row h l e k =
       let s : end - i ≡ suc (end - (i + 1)) = omega arith in
       let m : i < length rows = omega arith in
-      rw (s, drop-cons rows i noRow m, add-one i, k, q, e, rowsFault) refl
+      rw (s, drop-cons rows i noRow m, add-one i, k, e, rowsFault) refl
 
   -- the rest of the table is known once the row in hand is
-  rest-by : {row : Row} {run : Run} {f g : Lowest} → RestOf header base rows first end i → i < end → end ≤ length rows → row ≡ getD rows i noRow → run ≡ runOf row
-      → f ≡ runFault header base run → f ≡ g
+  rest-by : {row : Row} {f g : Lowest} → RestOf header base rows first end i → i < end → end ≤ length rows → row ≡ getD rows i noRow
+      → f ≡ rowFault header base row → f ≡ g
       → orElse g (rowsFault header base (take (end - (i + 1)) (drop (i + 1) rows))) ≡ rowsFault header base (take (end - first) (drop first rows))
-  rest-by v h l e q k t = sym (ap (λ (x : Lowest). orElse x (rowsFault header base (take (end - (i + 1)) (drop (i + 1) rows)))) t) ∙ sym (rest-row h l e q k) ∙ v
+  rest-by v h l e k t = sym (ap (λ (x : Lowest). orElse x (rowsFault header base (take (end - (i + 1)) (drop (i + 1) rows)))) t) ∙ sym (rest-row h l e k) ∙ v
 
-  pub rows-stop : {row : Row} {run : Run} {f : Lowest} {place : ℕ} → RestOf header base rows first end i → i < end → end ≤ length rows → row ≡ getD rows i noRow
-      → run ≡ runOf row → f ≡ runFault header base run → f ≡ At place → At place ≡ rowsFault header base (take (end - first) (drop first rows))
-  rows-stop v h l e q k t = rest-by v h l e q k t
+  pub rows-stop : {row : Row} {f : Lowest} {place : ℕ} → RestOf header base rows first end i → i < end → end ≤ length rows → row ≡ getD rows i noRow
+      → f ≡ rowFault header base row → f ≡ At place → At place ≡ rowsFault header base (take (end - first) (drop first rows))
+  rows-stop v h l e k t = rest-by v h l e k t
 
-  pub rows-on : {row : Row} {run : Run} {f : Lowest} → RestOf header base rows first end i → i < end → end ≤ length rows → row ≡ getD rows i noRow
-      → run ≡ runOf row → f ≡ runFault header base run → f ≡ Nowhere → RestOf header base rows first end (i + 1)
-  rows-on v h l e q k t = rest-by v h l e q k t
+  pub rows-on : {row : Row} {f : Lowest} → RestOf header base rows first end i → i < end → end ≤ length rows → row ≡ getD rows i noRow
+      → f ≡ rowFault header base row → f ≡ Nowhere → RestOf header base rows first end (i + 1)
+  rows-on v h l e k t = rest-by v h l e k t
 
   pub rows-clean : RestOf header base rows first end i → end ≤ i → Nowhere ≡ rowsFault header base (take (end - first) (drop first rows))
   unfolding rowsFault

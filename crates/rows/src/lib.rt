@@ -4,7 +4,7 @@ ghost use mathlib.Core.Path.{_≡_};
 ghost use Prim.Native.Nat.{_+_, _*_, _<_};
 ghost use Rattle.laws.specs.Reader.{bytes};
 ghost use Rattle.blocks.specs.Numbers.{Number, top};
-ghost use Rattle.rows.specs.Rows.{sizeOf, byteRun, eachRun, groupRun, runOf, Read, legal, breaks, placeOf, runFault};
+ghost use Rattle.rows.specs.Rows.{sizeOf, byteRun, eachRun, groupRun, Read, legal, breaks, placeOf, runFault, rowFault};
 
 // How many bytes a number has: 1, 2 or 4.
 pub enum Width {
@@ -122,68 +122,6 @@ fn number(header: &[u8], at: usize, width: Width) -> usize
     }
 }
 
-// One byte.
-fn byte_run(at: u16, rule: Rule) -> Run
-    ensures { λ r. ⌜ r ≡ byteRun at rule ⌝ }
-{
-    Run {
-        at,
-        count: 1,
-        width: Width::One,
-        own: false,
-        rule,
-    }
-}
-
-// Bytes, each its own place.
-fn each_run(at: u16, count: u16, rule: Rule) -> Run
-    ensures { λ r. ⌜ r ≡ eachRun at count rule ⌝ }
-{
-    Run {
-        at,
-        count,
-        width: Width::One,
-        own: true,
-        rule,
-    }
-}
-
-// Numbers whose place is the first's.
-fn group_run(at: u16, count: u16, width: Width, rule: Rule) -> Run
-    ensures { λ r. ⌜ r ≡ groupRun at count width rule ⌝ }
-{
-    Run {
-        at,
-        count,
-        width,
-        own: false,
-        rule,
-    }
-}
-
-pub fn run_of(row: Row) -> Run
-    ensures { λ r. ⌜ r ≡ runOf row ⌝ }
-{
-    match row {
-        Row::Only(at, v) => byte_run(at, Rule::From(v, v)),
-        Row::From(at, low, high) => byte_run(at, Rule::From(low, high)),
-        Row::Within(at, n) => byte_run(at, Rule::Within(n)),
-        Row::OrOff(at, n) => byte_run(at, Rule::OrOff(n)),
-        Row::OneOf(at, a, b, d) => byte_run(at, Rule::OneOf(a, b, d)),
-        Row::Name(at, count) => each_run(at, count, Rule::From(0, 40)),
-        Row::Ascii(at, count) => each_run(at, count, Rule::From(32, 126)),
-        Row::Zeros(at, count) => each_run(at, count, Rule::From(0, 0)),
-        Row::AllFrom(at, count, low, high) => {
-            group_run(at, count, Width::One, Rule::From(low, high))
-        }
-        Row::AllWithin(at, count, n) => group_run(at, count, Width::One, Rule::Within(n)),
-        Row::Word(at, v) => group_run(at, 1, Width::Two, Rule::From(v, v)),
-        Row::Past(at, n) => group_run(at, 1, Width::Two, Rule::Past(n)),
-        Row::WordsWithin(at, count, n) => group_run(at, count, Width::Two, Rule::Within(n)),
-        Row::AtMost(at, other) => group_run(at, 1, Width::Four, Rule::AtMost(other)),
-    }
-}
-
 // Whether a number of a header keeps a rule.
 fn is_legal(header: &[u8], base: usize, width: Width, rule: Rule, v: usize) -> bool
     requires { ⌜ (base < 4294967296) × (v < 4294967296) ⌝ }
@@ -262,7 +200,7 @@ fn place_of(base: usize, run: Run, j: usize) -> usize
 }
 
 // The lowest place of a run where its rule is broken.
-pub fn run_fault(header: &[u8], base: usize, run: Run) -> laws::Lowest
+fn run_fault(header: &[u8], base: usize, run: Run) -> laws::Lowest
     requires { ⌜ base < 4294967296 ⌝ }
     ensures { λ r. ⌜ r ≡ runFault (now (header .entry)) base run ⌝ }
 {
@@ -275,4 +213,85 @@ pub fn run_fault(header: &[u8], base: usize, run: Run) -> laws::Lowest
         j += 1;
     }
     laws::Lowest::Nowhere
+}
+
+// One byte, without a run: most rows are such.
+fn byte_fault(header: &[u8], base: usize, at: u16, rule: Rule) -> laws::Lowest
+    requires { ⌜ base < 4294967296 ⌝ }
+    ensures { λ r. ⌜ r ≡ runFault (now (header .entry)) base (byteRun at rule) ⌝ }
+{
+    let place = figure(at);
+    let v = number(header, place, Width::One);
+    if is_legal(header, base, Width::One, rule, v) {
+        return laws::Lowest::Nowhere;
+    }
+    laws::Lowest::At(base + place)
+}
+
+// Bytes, each its own place.
+fn each_fault(header: &[u8], base: usize, at: u16, count: u16, rule: Rule) -> laws::Lowest
+    requires { ⌜ base < 4294967296 ⌝ }
+    ensures { λ r. ⌜ r ≡ runFault (now (header .entry)) base (eachRun at count rule) ⌝ }
+{
+    let run = Run {
+        at,
+        count,
+        width: Width::One,
+        own: true,
+        rule,
+    };
+    run_fault(header, base, run)
+}
+
+// Numbers whose place is the first's.
+fn group_fault(
+    header: &[u8],
+    base: usize,
+    at: u16,
+    count: u16,
+    width: Width,
+    rule: Rule,
+) -> laws::Lowest
+    requires { ⌜ base < 4294967296 ⌝ }
+    ensures { λ r. ⌜ r ≡ runFault (now (header .entry)) base (groupRun at count width rule) ⌝ }
+{
+    let run = Run {
+        at,
+        count,
+        width,
+        own: false,
+        rule,
+    };
+    run_fault(header, base, run)
+}
+
+// The lowest place where a header breaks a row.
+pub fn row_fault(header: &[u8], base: usize, row: Row) -> laws::Lowest
+    requires { ⌜ base < 4294967296 ⌝ }
+    ensures { λ r. ⌜ r ≡ rowFault (now (header .entry)) base row ⌝ }
+{
+    match row {
+        Row::Only(at, v) => byte_fault(header, base, at, Rule::From(v, v)),
+        Row::From(at, low, high) => byte_fault(header, base, at, Rule::From(low, high)),
+        Row::Within(at, n) => byte_fault(header, base, at, Rule::Within(n)),
+        Row::OrOff(at, n) => byte_fault(header, base, at, Rule::OrOff(n)),
+        Row::OneOf(at, a, b, d) => byte_fault(header, base, at, Rule::OneOf(a, b, d)),
+        Row::Name(at, count) => each_fault(header, base, at, count, Rule::From(0, 40)),
+        Row::Ascii(at, count) => each_fault(header, base, at, count, Rule::From(32, 126)),
+        Row::Zeros(at, count) => each_fault(header, base, at, count, Rule::From(0, 0)),
+        Row::AllFrom(at, count, low, high) => {
+            group_fault(header, base, at, count, Width::One, Rule::From(low, high))
+        }
+        Row::AllWithin(at, count, n) => {
+            group_fault(header, base, at, count, Width::One, Rule::Within(n))
+        }
+        Row::Word(at, v) => group_fault(header, base, at, 1, Width::Two, Rule::From(v, v)),
+        Row::Past(at, n) => group_fault(header, base, at, 1, Width::Two, Rule::Past(n)),
+        Row::WordsWithin(at, count, n) => {
+            group_fault(header, base, at, count, Width::Two, Rule::Within(n))
+        }
+        Row::AtMost(at, other) => {
+            group_fault(header, base, at, 1, Width::Four, Rule::AtMost(other))
+        }
+    }
 }

@@ -24,20 +24,17 @@ mul-row c = search needs
 array-copy-out-row : tie.Need-array-copy-out-row Inv-loop μ-loop
 array-copy-out-row c = search needs
 
-run-of-requires : tie.Need-run-of-requires Inv-loop μ-loop
-run-of-requires c κs = search needs
-
-run-fault-requires : tie.Need-run-fault-requires Inv-loop μ-loop
-run-fault-requires c κs = search needs
+row-fault-requires : tie.Need-row-fault-requires Inv-loop μ-loop
+row-fault-requires c κs = search needs
 
 enum-known-fault : tie.Need-enum-known-fault Inv-loop μ-loop
 enum-known-fault c = search needs
 
 returns : tie.Need-returns Inv-loop μ-loop
 returns c =
-    let a = c .before .before .before .before .before .before .before .before .before .args in
+    let a = c .before .before .before .before .before .before .before .before .args in
     let l : length (a .t3) ≡ 131 = search needs in
-    rows-stop _ _ (a .t3) (a .first) (a .end) (c .before .before .before .before .before .before .before .loop .i) (c .before .before .before .before .before .before .before .loop .inv .1) (omega arith) (omega arith) refl (c .before .before .before .before .run-of .ensures) (c .before .before .before .run-fault .ensures) (c .before .fault .given .1)
+    rows-stop _ _ (a .t3) (a .first) (a .end) (c .before .before .before .before .before .before .loop .i) (c .before .before .before .before .before .before .loop .inv .1) (omega arith) (omega arith) refl (c .before .before .before .row-fault .ensures) (c .before .fault .given .1)
 
 enum-told : tie.Need-enum-told Inv-loop μ-loop
 enum-told c = search needs
@@ -50,9 +47,9 @@ loop-less c = search needs
 
 loop-again : tie.Need-loop-again Inv-loop μ-loop
 loop-again c =
-    let a = c .before .before .before .before .before .before .before .before .args in
+    let a = c .before .before .before .before .before .before .before .args in
     let l : length (a .t3) ≡ 131 = search needs in
-    (omega arith, rows-on _ _ (a .t3) (a .first) (a .end) (c .before .before .before .before .before .before .loop .i) (c .before .before .before .before .before .before .loop .inv .1) (omega arith) (omega arith) refl (c .before .before .before .run-of .ensures) (c .before .before .run-fault .ensures) (c .enum-told .given .1))
+    (omega arith, rows-on _ _ (a .t3) (a .first) (a .end) (c .before .before .before .before .before .loop .i) (c .before .before .before .before .before .loop .inv .1) (omega arith) (omega arith) refl (c .before .before .row-fault .ensures) (c .enum-told .given .1))
 
 returns-2 : tie.Need-returns-2 Inv-loop μ-loop
 returns-2 c = rows-clean _ _ _ _ _ _ (c .before .loop .inv .1) (c .loop-test .left)
@@ -66,8 +63,7 @@ rows-fault-spec =
     loop-holds
     mul-row
     array-copy-out-row
-    run-of-requires
-    run-fault-requires
+    row-fault-requires
     enum-known-fault
     returns
     enum-told
