@@ -85,6 +85,12 @@ distinct-append [] b p q h = q
 distinct-append (y ∷ a) b p q h =
     (λ m. ⊎-elim (λ k. p .0 k) (λ k. h y (inl refl) k) (in-append a b y m), distinct-append a b (p .1) q (λ x k. h x (inr k)))
 
+pub distinct-parts : (a b : List ℕ) → Distinct (a ++ b) → Distinct a × ((x : ℕ) → In x b → In x a → ⊥)
+distinct-parts [] b d = (tt, λ x h k. k)
+distinct-parts (y ∷ a) b d =
+    let r = distinct-parts a b (d .1) in
+    ((λ h. d .0 (in-left a b y h), r .0), λ x h k. ⊎-elim (λ e. d .0 (in-right a b y (rw e at h))) (λ i. r .1 x h i) k)
+
 count-none : (i n : ℕ) → count (λ k. false) i n ≡ 0
 unfolding count
 count-none i zero = refl
@@ -111,3 +117,36 @@ count-has i n (x ∷ l) d r =
     count-also (has l) (has (x ∷ l)) x i n (here .0) (here .1) (out-has l x (d .0)) (in-has (x ∷ l) x (inl refl))
     (λ k ne. rw (ne-eqb k x ne, has) refl)
     ∙ ap suc (count-has i n l (d .1) (λ y h. r y (inr h)))
+
+-- an element that is there already counts no more
+count-again : (x i n : ℕ) (l : List ℕ) → In x l → count (has (x ∷ l)) i n ≡ count (has l) i n
+unfolding has
+count-again x i n l h = count-cong (has (x ∷ l)) (has l) i n (λ k p q. go k (ℕ-discrete k x))
+  where
+    go : (k : ℕ) → Dec (k ≡ x) → has (x ∷ l) k ≡ has l k
+    go k (yes e) = in-has (x ∷ l) k (inl e) ∙ sym (ap (has l) e ∙ in-has l x h)
+    go k (no ne) = rw (ne-eqb k x ne, has) refl
+
+count-new : (x i n : ℕ) (l : List ℕ) → (i ≤ x) × (x < i + n) → (In x l → ⊥) → count (has (x ∷ l)) i n ≡ suc (count (has l) i n)
+unfolding has
+count-new x i n l here h =
+    count-also (has l) (has (x ∷ l)) x i n (here .0) (here .1) (out-has l x h) (in-has (x ∷ l) x (inl refl)) (λ k ne. rw (ne-eqb k x ne, has) refl)
+
+-- a list in a range has at least as many elements as it has numbers of the range
+count-most : (i n : ℕ) (l : List ℕ) → ((x : ℕ) → In x l → (i ≤ x) × (x < i + n)) → count (has l) i n ≤ length l
+unfolding has
+count-most i n [] r = omega (arith, count-none i n)
+count-most i n (x ∷ l) r = go (decIn x l) (count-most i n l (λ y h. r y (inr h)))
+  where
+    go : Dec (In x l) → count (has l) i n ≤ length l → count (has (x ∷ l)) i n ≤ length (x ∷ l)
+    go (yes h) m = omega (arith, count-again x i n l h)
+    go (no h) m = omega (arith, count-new x i n l (r x (inl refl)) h)
+
+-- as many exactly if none comes twice
+pub count-distinct : (i n : ℕ) (l : List ℕ) → ((x : ℕ) → In x l → (i ≤ x) × (x < i + n)) → count (has l) i n ≡ length l → Distinct l
+count-distinct i n [] r e = tt
+count-distinct i n (x ∷ l) r e = go (decIn x l) (count-distinct i n l (λ y h. r y (inr h)))
+  where
+    go : Dec (In x l) → (count (has l) i n ≡ length l → Distinct l) → Distinct (x ∷ l)
+    go (yes h) d = absurd (omega (arith, count-again x i n l h, count-most i n l (λ y h. r y (inr h)), e))
+    go (no h) d = (h, d (omega (arith, count-new x i n l (r x (inl refl)) h, e)))

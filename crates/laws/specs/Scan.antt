@@ -163,6 +163,34 @@ count-split f i (suc n) = go (count-split f (suc i) n) (f i) refl
     go ih true p = omega (arith, count-yes f i n p, count-no (λ k. not (f k)) i n (rw p refl))
     go ih false p = omega (arith, count-no f i n p, count-yes (λ k. not (f k)) i n (rw p refl))
 
+-- a test that another implies counts at least as much, and where both count alike they agree
+count-implied : (f g : ℕ → Bool) (i n : ℕ) → ((k : ℕ) → i ≤ k → k < i + n → f k ≡ true → g k ≡ true) → count f i n ≤ count g i n
+unfolding count
+count-implied f g i zero w = omega arith
+count-implied f g i (suc n) w = go (count-implied f g (suc i) n (λ k h l. w k (omega arith) (omega arith))) (f i) (g i) refl refl
+  where
+    go : count f (suc i) n ≤ count g (suc i) n → (t u : Bool) → f i ≡ t → g i ≡ u → count f i (suc n) ≤ count g i (suc n)
+    go ih true true p q = omega (arith, count-yes f i n p, count-yes g i n q)
+    go ih true false p q = absurd (clash (w i (omega arith) (omega arith) p) q)
+    go ih false true p q = omega (arith, count-no f i n p, count-yes g i n q)
+    go ih false false p q = omega (arith, count-no f i n p, count-no g i n q)
+
+pub count-agree : (f g : ℕ → Bool) (i n : ℕ) → ((k : ℕ) → i ≤ k → k < i + n → f k ≡ true → g k ≡ true) → count f i n ≡ count g i n
+    → (k : ℕ) → i ≤ k → k < i + n → g k ≡ true → f k ≡ true
+unfolding count
+count-agree f g i zero w e k h l t = absurd (omega arith)
+count-agree f g i (suc n) w e k h l t =
+    go (count-agree f g (suc i) n (λ j p q. w j (omega arith) (omega arith))) (count-implied f g (suc i) n (λ j p q. w j (omega arith) (omega arith))) (f i) (g i) refl refl (decLt i k)
+  where
+    go : (count f (suc i) n ≡ count g (suc i) n → (j : ℕ) → suc i ≤ j → j < suc i + n → g j ≡ true → f j ≡ true) → count f (suc i) n ≤ count g (suc i) n
+        → (a b : Bool) → f i ≡ a → g i ≡ b → Dec (i < k) → f k ≡ true
+    go ih le true true p q (yes d) = ih (omega (arith, e, count-yes f i n p, count-yes g i n q)) k (omega arith) (omega arith) t
+    go ih le true true p q (no d) = let z : k ≡ i = omega arith in ap f z ∙ p
+    go ih le true false p q d = absurd (clash (w i (omega arith) (omega arith) p) q)
+    go ih le false true p q d = absurd (omega (arith, e, count-no f i n p, count-yes g i n q))
+    go ih le false false p q (yes d) = ih (omega (arith, e, count-no f i n p, count-no g i n q)) k (omega arith) (omega arith) t
+    go ih le false false p q (no d) = let z : k ≡ i = omega arith in absurd (clash t (ap g z ∙ q))
+
 -- ---- tests of all and of any
 
 module _ (f : ℕ → Bool) (i n : ℕ) where
