@@ -3,9 +3,9 @@
 ghost use mathlib.Core.Path.{_≡_};
 ghost use mathlib.Core.Bool.{false};
 ghost use Prim.Native.Nat.{_+_, _-_, _≤_, _<_};
-ghost use lib.ListN.{length, replicate};
+ghost use lib.ListN.{length, getD, replicate};
 ghost use Rattle.laws.specs.Reader.{bytes};
-ghost use Rattle.laws.specs.Scan.{lowest};
+ghost use Rattle.laws.specs.Scan.{lowest, count};
 ghost use Rattle.laws.specs.declared.Lowest.the-variants.{Nowhere};
 ghost use Rattle.layout.specs.Layouts.{slotOffset, mapOffset, blockOffset};
 ghost use Rattle.layout.specs.Right.{LayoutRight};
@@ -16,7 +16,8 @@ ghost use Rattle.view.specs.declared.Ruled.the-variants.{Pass};
 ghost use Rattle.view.specs.Disk.{owned};
 ghost use Rattle.view.specs.Rules.{badSystem, walkOf, broken, sharing, stray, orFail};
 ghost use Rattle.image.specs.Image.{viewOf};
-ghost use Rattle.chains.specs.Passes.{Claimed};
+ghost use Rattle.chains.specs.Passes.{Followed, Claimed};
+ghost use Rattle.chains.specs.Tally.{taken};
 
 // The lowest system block that doesn't hold the system value (refusal 3).
 pub fn system_fault(head: &[u8], layout: layout::Layout) -> laws::Lowest
@@ -47,10 +48,11 @@ fn links_of(head: &[u8], layout: layout::Layout, slot: usize) -> usize
     (size - 1) / 1024
 }
 
-// The lowest slot whose chain has a fault, refused by the chain's first one (6 or 7).
-pub fn chain_fault(head: &[u8], layout: layout::Layout) -> view::Ruled
-    requires { ⌜ LayoutRight layout × (blockOffset (layout .first) ≤ length (now head)) ⌝ }
-    ensures { λ r. ⌜ r ≡ orFail (λ s. faultOf (walkOf layout (viewOf layout (bytes (now (head .entry)))) s)) (lowest (broken layout (viewOf layout (bytes (now (head .entry))))) 0 (layout .slots)) Pass ⌝ }
+// The lowest slot whose chain has a fault, refused by the chain's first one (6 or 7). The marks are left as those of all chains where
+// there is none.
+pub fn chain_fault(head: &[u8], layout: layout::Layout, marks: &mut [bool; 1600]) -> view::Ruled
+    requires { ⌜ LayoutRight layout × (blockOffset (layout .first) ≤ length (now head)) × (now marks ≡ replicate 1600 false) ⌝ }
+    ensures { λ r. ⌜ Followed layout (viewOf layout (bytes (now (head .entry)))) (now (marks .exit)) r ⌝ }
 {
     let end = layout.slots;
     let mark = layout.mark;
@@ -71,6 +73,7 @@ pub fn chain_fault(head: &[u8], layout: layout::Layout) -> view::Ruled
             if !map::is_link(layout, block) {
                 break 'slots view::Ruled::Fail { number: 6, place };
             }
+            marks[block] = true;
             let value = map::map_at(head, block);
             if left == 0 {
                 if value == mark {
@@ -86,6 +89,43 @@ pub fn chain_fault(head: &[u8], layout: layout::Layout) -> view::Ruled
         }
     };
     fault
+}
+
+// How many blocks the chains of all slots have.
+pub fn count_chained(head: &[u8], layout: layout::Layout) -> usize
+    requires { ⌜ LayoutRight layout × (blockOffset (layout .first) ≤ length (now head)) × (lowest (broken layout (viewOf layout (bytes (now head)))) 0 (layout .slots) ≡ Nowhere) ⌝ }
+    ensures { λ r. ⌜ r ≡ length (owned (viewOf layout (bytes (now (head .entry)))) (layout .slots)) ⌝ }
+{
+    let end = layout.slots;
+    let mut blocks = 0;
+    let mut next = 0;
+    while next < end {
+        let slot = next;
+        next += 1;
+        if !slots::is_used(head, layout, slot) {
+            continue;
+        }
+        blocks = blocks + links_of(head, layout, slot) + 1;
+    }
+    blocks
+}
+
+// How many data blocks are marked.
+pub fn count_marked(layout: layout::Layout, marks: &[bool; 1600]) -> usize
+    requires { ⌜ LayoutRight layout ⌝ }
+    ensures { λ r. ⌜ r ≡ count (λ b. getD (now (marks .entry)) b false) (layout .first) (layout .blocks - layout .first) ⌝ }
+{
+    let first = layout.first;
+    let end = layout.blocks;
+    let mut marked = 0;
+    let mut block = first;
+    while block < end {
+        if marks[block] {
+            marked += 1;
+        }
+        block += 1;
+    }
+    marked
 }
 
 // The lowest slot whose chain shares a block with a lower slot's (refusal 8). The marks are left as those of all chains where
@@ -110,6 +150,18 @@ pub fn share_fault(head: &[u8], layout: layout::Layout, marks: &mut [bool; 1600]
         map::mark_chain(head, layout, marks, links, start);
     }
     laws::Lowest::Nowhere
+}
+
+// The lowest slot whose chain shares a block with a lower slot's (refusal 8). Where as many blocks are marked as the chains have, there is none.
+pub fn shared_slot(head: &[u8], layout: layout::Layout, marked: usize) -> laws::Lowest
+    requires { ⌜ LayoutRight layout × (blockOffset (layout .first) ≤ length (now head)) × (lowest (broken layout (viewOf layout (bytes (now head)))) 0 (layout .slots) ≡ Nowhere) × (marked ≡ taken layout (viewOf layout (bytes (now head)))) ⌝ }
+    ensures { λ r. ⌜ r ≡ lowest (sharing layout (viewOf layout (bytes (now (head .entry))))) 0 (layout .slots) ⌝ }
+{
+    if marked == count_chained(head, layout) {
+        return laws::Lowest::Nowhere;
+    }
+    let mut marks = [false; 1600];
+    share_fault(head, layout, &mut marks)
 }
 
 // Whether a data block has a nonzero map value and is on no chain.
@@ -155,4 +207,21 @@ pub fn count_free(head: &[u8], layout: layout::Layout) -> usize
         block += 1;
     }
     free
+}
+
+// The lowest data block with a nonzero map value that is on no chain (refusal 9). Where the marked and the free blocks are all, there is none.
+pub fn stray_block(
+    head: &[u8],
+    layout: layout::Layout,
+    marks: &[bool; 1600],
+    marked: usize,
+) -> laws::Lowest
+    requires { ⌜ LayoutRight layout × (blockOffset (layout .first) ≤ length (now head)) × (lowest (broken layout (viewOf layout (bytes (now head)))) 0 (layout .slots) ≡ Nowhere) × (marked ≡ taken layout (viewOf layout (bytes (now head)))) × Marks 1600 (now marks) (owned (viewOf layout (bytes (now head))) (layout .slots)) ⌝ }
+    ensures { λ r. ⌜ r ≡ lowest (stray layout (viewOf layout (bytes (now (head .entry))))) (layout .first) (layout .blocks - layout .first) ⌝ }
+{
+    let left = layout.blocks - layout.first - count_free(head, layout);
+    if marked == left {
+        return laws::Lowest::Nowhere;
+    }
+    stray_fault(head, layout, marks)
 }

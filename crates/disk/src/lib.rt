@@ -15,19 +15,20 @@ fn chain_rules(head: &[u8], layout: layout::Layout) -> view::Ruled
     requires { ⌜ LayoutRight layout × (blockOffset (layout .first) ≤ length (now head)) ⌝ }
     ensures { λ r. ⌜ r ≡ chainRules layout (viewOf layout (bytes (now (head .entry)))) ⌝ }
 {
-    let fault = chains::chain_fault(head, layout);
+    let mut marks = [false; 1600];
+    let fault = chains::chain_fault(head, layout, &mut marks);
     let view::Ruled::Pass = fault else {
         return fault;
     };
-    let mut marks = [false; 1600];
-    let shared = chains::share_fault(head, layout, &mut marks);
+    let marked = chains::count_marked(layout, &marks);
+    let shared = chains::shared_slot(head, layout, marked);
     if let laws::Lowest::At(slot) = shared {
         return view::Ruled::Fail {
             number: 8,
             place: slot,
         };
     }
-    let stray = chains::stray_fault(head, layout, &marks);
+    let stray = chains::stray_block(head, layout, &marks, marked);
     if let laws::Lowest::At(block) = stray {
         return view::Ruled::Fail {
             number: 9,

@@ -1,9 +1,11 @@
--- `chains::chain_fault` meets its contract: the rest of a chain's walk answers as the whole, and the slots left answer as all.
--- Each way out of a loop and each turn is one law of a walk's steps or of a search. Assumes nothing.
+-- `chains::chain_fault` meets its contract: the rest of a chain's walk answers as the whole, and the slots left answer as all; the marks are those
+-- of the chains below a slot. Each way out of a loop and each turn is one law of a walk's steps, of marks or of a search. Assumes nothing.
 use mathlib.Core.Path.{_≡_, refl, sym, ap, _∙_}
-use mathlib.Core.Bool.{true, false, not}
-use Prim.Native.Nat.{ℕ, _-_, _<_}
+use mathlib.Core.Bool.{Bool, true, false, not}
+use mathlib.Core.List.{List, append-nil}
+use Prim.Native.Nat.{ℕ, _+_, _-_, _≤_, _<_}
 use native.Mathlib.Nat.{sub-zero}
+use native.Mathlib.Numerals.{add-one}
 use native.Mathlib.Omega.{arith}
 use borrow.Author.Needs.{needs}
 use borrow.Author.Tests.{not-true, not-false}
@@ -11,16 +13,21 @@ use Rattle.laws.specs.Truth.{true-both, false-both}
 use Rattle.laws.specs.Reader.{bytes}
 use Rattle.laws.specs.Scan.{lowest, lowest-end, lowest-stop, lowest-on}
 use Rattle.laws.specs.declared.Lowest.the-variants.{At}
+use Rattle.laws.specs.Member.{In}
 use Rattle.layout.specs.declared.Layout.{Layout}
+use Rattle.layout.specs.Right.{LayoutRight}
 use Rattle.blocks.specs.Blocks.{linksFor}
 use Rattle.map.specs.declared.Walk.{Walk}
 use Rattle.map.specs.declared.Walk.the-variants.{Whole, Bad, Cut}
-use Rattle.map.specs.Map.{mapAt, isLink, walk, isWhole, faultOf}
-use Rattle.map.specs.Walks.{link-data, walk-bad, walk-whole, walk-over, walk-cut, walk-on}
+use Rattle.map.specs.Map.{mapAt, isLink, chain, Chained, walk, isWhole, faultOf, marked}
+use Rattle.map.specs.Chains.{chain-data}
+use Rattle.map.specs.Marks.{Marks, marks-none, marks-more, mark-last, mark-next}
+use Rattle.map.specs.Walks.{link-data, walk-chained, walk-bad, walk-whole, walk-over, walk-cut, walk-on}
 use Rattle.view.specs.declared.Ruled.the-variants.{Pass, Fail}
-use Rattle.view.specs.Disk.{View, used}
+use Rattle.view.specs.Disk.{View, used, entryChain, chainOf, owned}
 use Rattle.view.specs.Rules.{walkOf, broken, orFail}
 use Rattle.image.specs.Image.{viewOf}
+use Rattle.chains.specs.Passes.{Followed}
 use Rattle.chains.proofs.chain_fault.Statement.{statement}
 use Rattle.chains.proofs.chain_fault.Tie as tie
 
@@ -47,21 +54,39 @@ module _ (l : Layout) (v : View) (s : ℕ) where
       let found : lowest (broken l v) 0 n ≡ At s = i ∙ lowest-stop (broken l v) s n h bad in
       rw (found, e)
 
+  -- an empty slot has no block to mark
+  empty-marks : used (v .entry s) ≡ false → (ms : List Bool) → Marks 1600 ms (owned v s) → Marks 1600 ms (owned v (s + 1))
+  unfolding owned chainOf
+  empty-marks e ms m = rw (add-one s, e, append-nil (owned v s)) m
+
+  -- with a faultless chain's they are the marks of one slot more
+  whole-marks : LayoutRight l → (k b : ℕ) → used (v .entry s) ≡ true → k ≡ linksFor (v .entry s .size) → b ≡ v .entry s .start → walkOf l v s ≡ Whole
+      → (ms : List Bool) → Marks 1600 ms (owned v s) → Marks 1600 (marked ms (chain (v .map) k b)) (owned v (s + 1))
+  unfolding owned chainOf entryChain
+  whole-marks right k b u x y w ms m =
+      let c : Chained l (v .map) k b = walk-chained l (v .map) k b (sym (walk-starts k b x y) ∙ w) in
+      let inside : (i : ℕ) → In i (chain (v .map) k b) → i < 1600 = λ i h. omega (arith, chain-data l right (v .map) k b i c h .1, right .blocks-most) in
+      rw (add-one s, u, ← x, ← y) (marks-more 1600 (chain (v .map) k b) ms (owned v s) inside m)
+
 abbrev Inv-loop : tie.InvT-loop
-Inv-loop head layout end mark next slot left₀ block₀ place left block = walkOf layout (viewOf layout (bytes head)) slot ≡ walk layout (mapAt (bytes head)) left block
+Inv-loop head layout marks₀ end mark next slot left₀ block₀ place marks left block =
+    (walkOf layout (viewOf layout (bytes head)) slot ≡ walk layout (mapAt (bytes head)) left block)
+    × (marked marks₀ (chain (mapAt (bytes head)) left₀ block₀) ≡ marked marks (chain (mapAt (bytes head)) left block))
 
 abbrev μ-loop : tie.MeasureT-loop
-μ-loop head layout end mark next slot left₀ block₀ place left block = left
+μ-loop head layout marks₀ end mark next slot left₀ block₀ place marks left block = left
 
 abbrev Inv-slots : tie.InvT-slots
-Inv-slots head layout end mark next₀ next =
-    lowest (broken layout (viewOf layout (bytes head))) 0 end ≡ lowest (broken layout (viewOf layout (bytes head))) next (end - next)
+Inv-slots head layout marks₀ end mark next₀ marks next =
+    (next ≤ end) × Marks 1600 marks (owned (viewOf layout (bytes head)) next)
+    × (lowest (broken layout (viewOf layout (bytes head))) 0 end ≡ lowest (broken layout (viewOf layout (bytes head))) next (end - next))
 
 abbrev μ-slots : tie.MeasureT-slots
-μ-slots head layout end mark next₀ next = end - next
+μ-slots head layout marks₀ end mark next₀ marks next = end - next
 
 slots-holds : tie.Need-slots-holds Inv-loop μ-loop Inv-slots μ-slots
-slots-holds c = rw sub-zero
+unfolding owned
+slots-holds c = (omega arith, rw (c .before .pre .2) (marks-none 1600), rw sub-zero)
 
 add-next : tie.Need-add-next Inv-loop μ-loop Inv-slots μ-slots
 add-next c = search needs
@@ -95,13 +120,20 @@ loop-less c = search needs
 slots-again : tie.Need-slots-again Inv-loop μ-loop Inv-slots μ-slots
 slots-again c =
     let d = c .before .before in
-    d .before .slots .inv ∙ lowest-on _ _ _ (d .if1 .left) (empty-sound _ _ _ (sym (c .before .is-used .ensures) ∙ not-true _ (c .if2 .taken)))
+    let i = d .before .slots .inv in
+    let e = sym (c .before .is-used .ensures) ∙ not-true _ (c .if2 .taken) in
+    (omega (arith, d .if1 .left), empty-marks (d .before .before .before .args .layout) _ _ e _ (i .1), i .2 ∙ lowest-on _ _ _ (d .if1 .left) (empty-sound _ _ _ e))
 
 loop-holds : tie.Need-loop-holds Inv-loop μ-loop Inv-slots μ-slots
-loop-holds c = walk-starts _ _ _ _ _ (c .before .links-of .ensures) (c .start-of .ensures)
+loop-holds c = (walk-starts _ _ _ _ _ (c .before .links-of .ensures) (c .start-of .ensures), refl)
 
 returns : tie.Need-returns Inv-loop μ-loop Inv-slots μ-slots
-returns c = let e = c .before .slots .inv ∙ lowest-end _ _ _ (c .if1 .taken) in rw e
+returns c =
+    let i = c .before .slots .inv in
+    let a = c .before .before .before .args in
+    let z : c .before .slots .next ≡ a .layout .slots = omega arith in
+    let e = i .2 ∙ lowest-end _ _ _ (c .if1 .taken) in
+    record { fault = rw e; marks-all = λ _. rw z at (i .1) }
 
 -- ---- a chain's blocks
 
@@ -110,6 +142,9 @@ linked : (c : tie.Else3 Inv-loop μ-loop Inv-slots μ-slots)
     → isLink (c .before .before .before .before .before .before .before .before .before .before .args .layout) (c .before .before .loop .block) ≡ true
 linked c = sym (c .before .is-link .ensures) ∙ not-false _ (c .if3 .left)
 
+element-write-marks : tie.Need-element-write-marks Inv-loop μ-loop Inv-slots μ-slots
+element-write-marks c = omega (arith, link-data _ _ (linked c) .1, c .before .before .before .before .before .before .before .before .before .before .pre .0 .blocks-most)
+
 map-at-requires : tie.Need-map-at-requires Inv-loop μ-loop Inv-slots μ-slots
 map-at-requires c κs = omega (arith, link-data _ _ (linked c) .1)
 
@@ -117,14 +152,19 @@ slots-again-2 : tie.Need-slots-again-2 Inv-loop μ-loop Inv-slots μ-slots
 slots-again-2 c =
     let d = c .before .before in
     let e = d .before .before .before in
-    let o = e .before .before .before .before .before in
-    o .before .slots .inv ∙ lowest-on _ _ _ (o .if1 .left)
-    (whole-sound _ _ _ (e .loop .inv ∙ walk-whole _ _ _ _ _ (linked (d .before)) (d .map-at .ensures) (c .before .if4 .taken) (c .if5 .taken)))
+    let u = e .before .before .before in
+    let o = u .before .before in
+    let i = o .before .slots .inv in
+    let w = e .loop .inv .0 ∙ walk-whole _ _ _ _ _ (linked (d .before)) (d .map-at .ensures) (c .before .if4 .taken) (c .if5 .taken) in
+    let used-is = sym (u .before .is-used .ensures) ∙ not-false _ (u .if2 .left) in
+    let m = whole-marks _ _ _ (o .before .before .before .pre .0) _ _ used-is (e .before .before .links-of .ensures) (e .before .start-of .ensures) w _ (i .1) in
+    (omega (arith, o .if1 .left), rw (e .loop .inv .1 ∙ mark-last _ _ _ _ (c .before .if4 .taken)) at m, i .2 ∙ lowest-on _ _ _ (o .if1 .left) (whole-sound _ _ _ w))
 
 loop-again : tie.Need-loop-again Inv-loop μ-loop Inv-slots μ-slots
 loop-again c =
     let d = c .before .before in
-    d .before .before .before .loop .inv ∙ walk-on _ _ _ _ _ (linked (d .before)) (d .map-at .ensures) (c .before .if4 .left) (c .if6 .left)
+    let i = d .before .before .before .loop .inv in
+    (i .0 ∙ walk-on _ _ _ _ _ (linked (d .before)) (d .map-at .ensures) (c .before .if4 .left) (c .if6 .left), i .1 ∙ mark-next _ _ _ _ _ (d .map-at .ensures) (c .before .if4 .left))
 
 -- a walk that isn't whole ends the search
 stopped : (c : tie.At-loop Inv-loop μ-loop Inv-slots μ-slots) (w : Walk)
@@ -132,24 +172,27 @@ stopped : (c : tie.At-loop Inv-loop μ-loop Inv-slots μ-slots) (w : Walk)
     let v = viewOf (a .layout) (bytes (a .head .now)) in
     let s = c .before .before .before .before .before .before .slots .next in
     walk (a .layout) (mapAt (bytes (a .head .now))) (c .loop .left) (c .loop .block) ≡ w → isWhole w ≡ false
-    → Fail (faultOf w) s ≡ orFail (λ t. faultOf (walkOf (a .layout) v t)) (lowest (broken (a .layout) v) 0 (a .layout .slots)) Pass)
-stopped c w e f =
+    → (ms : List Bool) → Followed (a .layout) v ms (Fail (faultOf w) s))
+stopped c w e f ms =
     let u = c .before .before .before in
     let o = u .before .before in
-    stop-at _ _ _ _ w (o .if1 .left) (sym (u .before .is-used .ensures) ∙ not-false _ (u .if2 .left)) (c .loop .inv ∙ e) f (o .before .slots .inv)
+    record {
+      fault = stop-at _ _ _ _ w (o .if1 .left) (sym (u .before .is-used .ensures) ∙ not-false _ (u .if2 .left)) (c .loop .inv .0 ∙ e) f (o .before .slots .inv .2);
+      marks-all = λ p. let z : _≡_ {A = ℕ} 0 1 = cc in absurd (omega arith);
+    }
 
 returns-2 : tie.Need-returns-2 Inv-loop μ-loop Inv-slots μ-slots
-returns-2 c = stopped (c .before .before) Bad (walk-bad _ _ _ _ (sym (c .before .is-link .ensures) ∙ not-true _ (c .if3 .taken))) refl
+returns-2 c = stopped (c .before .before) Bad (walk-bad _ _ _ _ (sym (c .before .is-link .ensures) ∙ not-true _ (c .if3 .taken))) refl _
 
 returns-3 : tie.Need-returns-3 Inv-loop μ-loop Inv-slots μ-slots
 returns-3 c =
     let d = c .before .before in
-    stopped (d .before .before .before) Cut (walk-over _ _ _ _ _ (linked (d .before)) (d .map-at .ensures) (c .before .if4 .taken) (c .if5 .left)) refl
+    stopped (d .before .before .before) Cut (walk-over _ _ _ _ _ (linked (d .before)) (d .map-at .ensures) (c .before .if4 .taken) (c .if5 .left)) refl _
 
 returns-4 : tie.Need-returns-4 Inv-loop μ-loop Inv-slots μ-slots
 returns-4 c =
     let d = c .before .before in
-    stopped (d .before .before .before) Cut (walk-cut _ _ _ _ _ (linked (d .before)) (d .map-at .ensures) (c .before .if4 .left) (c .if6 .taken)) refl
+    stopped (d .before .before .before) Cut (walk-cut _ _ _ _ _ (linked (d .before)) (d .map-at .ensures) (c .before .if4 .left) (c .if6 .taken)) refl _
 
 pub chain-fault-spec : {M : Type 1} → statement M
 chain-fault-spec =
@@ -168,6 +211,7 @@ chain-fault-spec =
     start-of-requires
     loop-holds
     is-link-requires
+    element-write-marks
     map-at-requires
     slots-less-2
     slots-again-2
