@@ -1,6 +1,6 @@
 -- Two counts over the data area decide refusals 8 and 9 where no chain is broken: as many marked blocks as the chains have, and no other taken.
 -- A list without repeats has as many numbers as elements, and of two tests that count alike the one implies the other. Assumes nothing.
-use mathlib.Core.Path.{_≡_, refl, sym, ap, _∙_}
+use mathlib.Core.Path.{_≡_, refl, ap, _∙_}
 use mathlib.Core.Bool.{Bool, true, false, not}
 use mathlib.Core.List.{List, append-nil}
 use Prim.Native.Nat.{ℕ, zero, suc, _+_, _-_, _≤_, _<_}
@@ -18,9 +18,9 @@ use Rattle.laws.specs.declared.Lowest.the-variants.{Nowhere}
 use Rattle.layout.specs.declared.Layout.{Layout}
 use Rattle.layout.specs.Right.{LayoutRight}
 use Rattle.blocks.specs.Blocks.{linksFor}
-use Rattle.map.specs.Map.{Data, chain, Chained, isWhole, freeCount}
+use Rattle.map.specs.Map.{Data, chain, Chained, isWhole, freeCount, marked}
 use Rattle.map.specs.Chains.{length-chain, chain-data, chain-taken, chain-short}
-use Rattle.map.specs.Marks.{Marks}
+use Rattle.map.specs.Marks.{Marks, marks-more}
 use Rattle.map.specs.Walks.{walk-chained, whole-is}
 use Rattle.view.specs.Disk.{View, used, entryChain, chainOf, owned}
 use Rattle.view.specs.Counting.{owned-by}
@@ -50,11 +50,21 @@ module _ (v : View) (s : ℕ) where
   owned-used u {k} e =
       rw (add-one s, u) (length-append (owned v s) (chain (v .map) (linksFor (v .entry s .size)) (v .entry s .start)) ∙ omega (arith, length-chain (v .map) (linksFor (v .entry s .size)) (v .entry s .start), e))
 
+  -- their marks: an empty slot has none, a chain adds its own
+  pub empty-marks : used (v .entry s) ≡ false → (ms : List Bool) → Marks 1600 ms (owned v s) → Marks 1600 ms (owned v (s + 1))
+  unfolding owned chainOf
+  empty-marks e ms m = rw (add-one s, e, append-nil (owned v s)) m
+
+  pub chain-marks : used (v .entry s) ≡ true → (k b : ℕ) → k ≡ linksFor (v .entry s .size) → b ≡ v .entry s .start → ((x : ℕ) → In x (chain (v .map) k b) → x < 1600)
+      → (ms : List Bool) → Marks 1600 ms (owned v s) → Marks 1600 (marked ms (chain (v .map) k b)) (owned v (s + 1))
+  unfolding owned chainOf entryChain
+  chain-marks u k b e f inside ms m = rw (add-one s, u, ← e, ← f) (marks-more 1600 (chain (v .map) k b) ms (owned v s) inside m)
+
 -- ---- where no chain is broken
 
 module _ (l : Layout) (right : LayoutRight l) (v : View) (sound : lowest (broken l v) 0 (l .slots) ≡ Nowhere) where
   -- where no chain is broken, a used slot's is faultless
-  slot-chained : (s : ℕ) → s < l .slots → used (v .entry s) ≡ true → Chained l (v .map) (linksFor (v .entry s .size)) (v .entry s .start)
+  pub slot-chained : (s : ℕ) → s < l .slots → used (v .entry s) ≡ true → Chained l (v .map) (linksFor (v .entry s .size)) (v .entry s .start)
   unfolding broken walkOf
   slot-chained s h u =
       let fine = both-false (used (v .entry s)) (not (isWhole (walkOf l v s))) (nowhere→ (broken l v) 0 (l .slots) sound s (omega arith) (omega arith)) u in

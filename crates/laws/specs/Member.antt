@@ -109,14 +109,16 @@ count-also f g x i (suc n) h l e q w = go (count-also f g x (suc i) n) (ℕ-disc
     go ih (no p) true r = count-yes g i n (w i p ∙ r) ∙ ap suc (ih (omega arith) (omega arith) e q w ∙ sym (count-yes f i n r))
     go ih (no p) false r = count-no g i n (w i p ∙ r) ∙ ih (omega arith) (omega arith) e q w ∙ ap suc (sym (count-no f i n r))
 
+-- a new element counts one more
+count-new : (x i n : ℕ) (l : List ℕ) → (i ≤ x) × (x < i + n) → (In x l → ⊥) → count (has (x ∷ l)) i n ≡ suc (count (has l) i n)
+unfolding has
+count-new x i n l here h =
+    count-also (has l) (has (x ∷ l)) x i n (here .0) (here .1) (out-has l x h) (in-has (x ∷ l) x (inl refl)) (λ k ne. rw (ne-eqb k x ne, has) refl)
+
 pub count-has : (i n : ℕ) (l : List ℕ) → Distinct l → ((x : ℕ) → In x l → (i ≤ x) × (x < i + n)) → count (has l) i n ≡ length l
 unfolding has
 count-has i n [] d r = count-none i n
-count-has i n (x ∷ l) d r =
-    let here = r x (inl refl) in
-    count-also (has l) (has (x ∷ l)) x i n (here .0) (here .1) (out-has l x (d .0)) (in-has (x ∷ l) x (inl refl))
-    (λ k ne. rw (ne-eqb k x ne, has) refl)
-    ∙ ap suc (count-has i n l (d .1) (λ y h. r y (inr h)))
+count-has i n (x ∷ l) d r = count-new x i n l (r x (inl refl)) (d .0) ∙ ap suc (count-has i n l (d .1) (λ y h. r y (inr h)))
 
 -- an element that is there already counts no more
 count-again : (x i n : ℕ) (l : List ℕ) → In x l → count (has (x ∷ l)) i n ≡ count (has l) i n
@@ -126,11 +128,6 @@ count-again x i n l h = count-cong (has (x ∷ l)) (has l) i n (λ k p q. go k (
     go : (k : ℕ) → Dec (k ≡ x) → has (x ∷ l) k ≡ has l k
     go k (yes e) = in-has (x ∷ l) k (inl e) ∙ sym (ap (has l) e ∙ in-has l x h)
     go k (no ne) = rw (ne-eqb k x ne, has) refl
-
-count-new : (x i n : ℕ) (l : List ℕ) → (i ≤ x) × (x < i + n) → (In x l → ⊥) → count (has (x ∷ l)) i n ≡ suc (count (has l) i n)
-unfolding has
-count-new x i n l here h =
-    count-also (has l) (has (x ∷ l)) x i n (here .0) (here .1) (out-has l x h) (in-has (x ∷ l) x (inl refl)) (λ k ne. rw (ne-eqb k x ne, has) refl)
 
 -- a list in a range has at least as many elements as it has numbers of the range
 count-most : (i n : ℕ) (l : List ℕ) → ((x : ℕ) → In x l → (i ≤ x) × (x < i + n)) → count (has l) i n ≤ length l

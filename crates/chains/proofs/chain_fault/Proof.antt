@@ -2,10 +2,9 @@
 -- of the chains below a slot. Each way out of a loop and each turn is one law of a walk's steps, of marks or of a search. Assumes nothing.
 use mathlib.Core.Path.{_≡_, refl, sym, ap, _∙_}
 use mathlib.Core.Bool.{Bool, true, false, not}
-use mathlib.Core.List.{List, append-nil}
+use mathlib.Core.List.{List}
 use Prim.Native.Nat.{ℕ, _+_, _-_, _≤_, _<_}
 use native.Mathlib.Nat.{sub-zero}
-use native.Mathlib.Numerals.{add-one}
 use native.Mathlib.Omega.{arith}
 use borrow.Author.Needs.{needs}
 use borrow.Author.Tests.{not-true, not-false}
@@ -13,7 +12,6 @@ use Rattle.laws.specs.Truth.{true-both, false-both}
 use Rattle.laws.specs.Reader.{bytes}
 use Rattle.laws.specs.Scan.{lowest, lowest-end, lowest-stop, lowest-on}
 use Rattle.laws.specs.declared.Lowest.the-variants.{At}
-use Rattle.laws.specs.Member.{In}
 use Rattle.layout.specs.declared.Layout.{Layout}
 use Rattle.layout.specs.Right.{LayoutRight}
 use Rattle.blocks.specs.Blocks.{linksFor}
@@ -21,13 +19,14 @@ use Rattle.map.specs.declared.Walk.{Walk}
 use Rattle.map.specs.declared.Walk.the-variants.{Whole, Bad, Cut}
 use Rattle.map.specs.Map.{mapAt, isLink, chain, Chained, walk, isWhole, faultOf, marked}
 use Rattle.map.specs.Chains.{chain-data}
-use Rattle.map.specs.Marks.{Marks, marks-none, marks-more, mark-last, mark-next}
+use Rattle.map.specs.Marks.{Marks, marks-none, mark-last, mark-next}
 use Rattle.map.specs.Walks.{link-data, walk-chained, walk-bad, walk-whole, walk-over, walk-cut, walk-on}
 use Rattle.view.specs.declared.Ruled.the-variants.{Pass, Fail}
-use Rattle.view.specs.Disk.{View, used, entryChain, chainOf, owned}
+use Rattle.view.specs.Disk.{View, used, owned}
 use Rattle.view.specs.Rules.{walkOf, broken, orFail}
 use Rattle.image.specs.Image.{viewOf}
 use Rattle.chains.specs.Passes.{Followed}
+use Rattle.chains.specs.Tally.{empty-marks, chain-marks}
 use Rattle.chains.proofs.chain_fault.Statement.{statement}
 use Rattle.chains.proofs.chain_fault.Tie as tie
 
@@ -54,19 +53,12 @@ module _ (l : Layout) (v : View) (s : ℕ) where
       let found : lowest (broken l v) 0 n ≡ At s = i ∙ lowest-stop (broken l v) s n h bad in
       rw (found, e)
 
-  -- an empty slot has no block to mark
-  empty-marks : used (v .entry s) ≡ false → (ms : List Bool) → Marks 1600 ms (owned v s) → Marks 1600 ms (owned v (s + 1))
-  unfolding owned chainOf
-  empty-marks e ms m = rw (add-one s, e, append-nil (owned v s)) m
-
   -- with a faultless chain's they are the marks of one slot more
   whole-marks : LayoutRight l → (k b : ℕ) → used (v .entry s) ≡ true → k ≡ linksFor (v .entry s .size) → b ≡ v .entry s .start → walkOf l v s ≡ Whole
       → (ms : List Bool) → Marks 1600 ms (owned v s) → Marks 1600 (marked ms (chain (v .map) k b)) (owned v (s + 1))
-  unfolding owned chainOf entryChain
   whole-marks right k b u x y w ms m =
       let c : Chained l (v .map) k b = walk-chained l (v .map) k b (sym (walk-starts k b x y) ∙ w) in
-      let inside : (i : ℕ) → In i (chain (v .map) k b) → i < 1600 = λ i h. omega (arith, chain-data l right (v .map) k b i c h .1, right .blocks-most) in
-      rw (add-one s, u, ← x, ← y) (marks-more 1600 (chain (v .map) k b) ms (owned v s) inside m)
+      chain-marks v s u k b x y (λ i h. omega (arith, chain-data l right (v .map) k b i c h .1, right .blocks-most)) ms m
 
 abbrev Inv-loop : tie.InvT-loop
 Inv-loop head layout marks₀ end mark next slot left₀ block₀ place marks left block =
@@ -122,7 +114,7 @@ slots-again c =
     let d = c .before .before in
     let i = d .before .slots .inv in
     let e = sym (c .before .is-used .ensures) ∙ not-true _ (c .if2 .taken) in
-    (omega (arith, d .if1 .left), empty-marks (d .before .before .before .args .layout) _ _ e _ (i .1), i .2 ∙ lowest-on _ _ _ (d .if1 .left) (empty-sound _ _ _ e))
+    (omega (arith, d .if1 .left), empty-marks _ _ e _ (i .1), i .2 ∙ lowest-on _ _ _ (d .if1 .left) (empty-sound _ _ _ e))
 
 loop-holds : tie.Need-loop-holds Inv-loop μ-loop Inv-slots μ-slots
 loop-holds c = (walk-starts _ _ _ _ _ (c .before .links-of .ensures) (c .start-of .ensures), refl)

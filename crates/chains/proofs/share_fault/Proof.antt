@@ -1,43 +1,36 @@
 -- `chains::share_fault` meets its contract: the marks are those of the chains below a slot, so a marked block is a shared one.
 -- No chain is broken, so each is a faultless one to walk; the slots left answer as all. Assumes nothing.
 use mathlib.Core.Path.{_≡_, sym, ap, _∙_}
-use mathlib.Core.Bool.{Bool, true, false, not}
-use mathlib.Core.List.{List, append-nil}
+use mathlib.Core.Bool.{Bool, true, false}
+use mathlib.Core.List.{List}
 use Prim.Native.Nat.{ℕ, _+_, _-_, _≤_, _<_}
 use native.Mathlib.Nat.{sub-zero}
-use native.Mathlib.Numerals.{add-one}
 use native.Mathlib.Omega.{arith}
 use borrow.Author.Needs.{needs}
 use borrow.Author.Tests.{not-true, not-false}
-use Rattle.laws.specs.Truth.{both-false}
 use Rattle.laws.specs.Reader.{bytes}
-use Rattle.laws.specs.Scan.{lowest, lowest-end, lowest-stop, lowest-on, nowhere→}
+use Rattle.laws.specs.Scan.{lowest, lowest-end, lowest-stop, lowest-on}
 use Rattle.laws.specs.declared.Lowest.the-variants.{Nowhere}
 use Rattle.laws.specs.Lists.{meets}
 use Rattle.laws.specs.Member.{In}
 use Rattle.layout.specs.declared.Layout.{Layout}
 use Rattle.layout.specs.Right.{LayoutRight}
 use Rattle.blocks.specs.Blocks.{linksFor}
-use Rattle.map.specs.Map.{chain, Chained, isWhole, touched, marked}
+use Rattle.map.specs.Map.{chain, Chained, touched, marked}
 use Rattle.map.specs.Chains.{chain-data}
-use Rattle.map.specs.Walks.{walk-chained, whole-is}
-use Rattle.map.specs.Marks.{Marks, marks-none, marks-more, touched-meets}
+use Rattle.map.specs.Marks.{Marks, marks-none, touched-meets}
 use Rattle.view.specs.Disk.{View, used, chainOf, owned}
-use Rattle.view.specs.Rules.{walkOf, broken, sharing}
+use Rattle.view.specs.Rules.{broken, sharing}
 use Rattle.image.specs.Image.{viewOf}
+use Rattle.chains.specs.Tally.{empty-marks, chain-marks, slot-chained}
 use Rattle.chains.proofs.share_fault.Statement.{statement}
 use Rattle.chains.proofs.share_fault.Tie as tie
 
--- ---- an empty slot: nothing is shared, and no block more is owned
+-- ---- an empty slot: nothing is shared
 
-module _ (v : View) (s : ℕ) (empty : used (v .entry s) ≡ false) where
-  empty-apart : (l : Layout) → sharing l v s ≡ false
-  unfolding sharing
-  empty-apart l = rw empty
-
-  empty-marks : (ms : List Bool) → Marks 1600 ms (owned v s) → Marks 1600 ms (owned v (s + 1))
-  unfolding owned
-  empty-marks ms m = rw (add-one s, empty, append-nil (owned v s)) m
+empty-apart : (v : View) (s : ℕ) → used (v .entry s) ≡ false → (l : Layout) → sharing l v s ≡ false
+unfolding sharing
+empty-apart v s empty l = rw empty
 
 -- ---- a used slot, its chain walked with k links from block b
 
@@ -45,17 +38,17 @@ record Walked (l : Layout) (v : View) (s k b : ℕ) : Type 0 where
   chained : Chained l (v .map) k b
   inside : (x : ℕ) → In x (chain (v .map) k b) → x < 1600
   all : chainOf v s ≡ chain (v .map) k b
+  marks : (ms : List Bool) → Marks 1600 ms (owned v s) → Marks 1600 (marked ms (chain (v .map) k b)) (owned v (s + 1))
 
 module _ (l : Layout) (v : View) (s k b : ℕ) where
   -- where no chain is broken, a used slot's is faultless
   slot-walked : LayoutRight l → lowest (broken l v) 0 (l .slots) ≡ Nowhere → s < l .slots → used (v .entry s) ≡ true → k ≡ linksFor (v .entry s .size) → b ≡ v .entry s .start
       → Walked l v s k b
-  unfolding broken chainOf
+  unfolding chainOf
   slot-walked right sound h u links start =
-      let fine = both-false (used (v .entry s)) (not (isWhole (walkOf l v s))) (nowhere→ (broken l v) 0 (l .slots) sound s (omega arith) (omega arith)) u in
-      let whole = whole-is (walkOf l v s) (not-false (isWhole (walkOf l v s)) fine) in
-      let c : Chained l (v .map) k b = rw (links, start) (walk-chained l (v .map) (linksFor (v .entry s .size)) (v .entry s .start) whole) in
-      record { chained = c; inside = λ x i. omega (arith, chain-data l right (v .map) k b x c i .1, right .blocks-most); all = rw (u, links, start) }
+      let c : Chained l (v .map) k b = rw (links, start) (slot-chained l right v sound s h u) in
+      let inside : (x : ℕ) → In x (chain (v .map) k b) → x < 1600 = λ x i. omega (arith, chain-data l right (v .map) k b x c i .1, right .blocks-most) in
+      record { chained = c; inside = inside; all = rw (u, links, start); marks = chain-marks v s u k b links start inside }
 
   module _ (w : Walked l v s k b) (ms : List Bool) (m : Marks 1600 ms (owned v s)) where
     -- it shares a block where it touches the marks of the slots below
@@ -65,8 +58,7 @@ module _ (l : Layout) (v : View) (s k b : ℕ) where
 
     -- and with it they are the marks of one slot more
     slot-marks : Marks 1600 (marked ms (chain (v .map) k b)) (owned v (s + 1))
-    unfolding owned
-    slot-marks = rw (add-one s, w .all) (marks-more 1600 (chain (v .map) k b) ms (owned v s) (w .inside) m)
+    slot-marks = w .marks ms m
 
 abbrev Inv-loop : tie.InvT-loop
 Inv-loop head layout marks₀ end next₀ marks next =
