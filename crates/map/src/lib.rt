@@ -7,7 +7,7 @@ ghost use Rattle.laws.specs.Reader.{bytes};
 ghost use Rattle.laws.specs.Member.{In};
 ghost use Rattle.layout.specs.Right.{LayoutRight};
 ghost use Rattle.layout.specs.Layouts.{mapOffset};
-ghost use Rattle.map.specs.Map.{mapAt, Fits, Data, isLink, chain, Chained, Nth, walk, freeBlocks, Collected, setMap, firstOr, linkBlocks, freeAll, touched, marked};
+ghost use Rattle.map.specs.Map.{mapAt, Fits, isLink, chain, Chained, Nth, walk, freeBlocks, Collected, setMap, firstOr, linkBlocks, freeAll, touched, marked};
 
 // How the walk of a chain ends: faultless, at what is neither a link nor the end mark (refusal 6), or at the wrong length (7).
 pub enum Walk {

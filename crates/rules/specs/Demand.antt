@@ -9,7 +9,7 @@ use Prim.Native.Nat.{ℕ, _+_, _-_, _<_}
 use native.Mathlib.Omega.{arith}
 use lib.Dec.{ltb}
 use lib.ListN.{length}
-use borrow.Author.Tests.{ne-eqb, lt-ltb, ltb-true}
+use borrow.Author.Tests.{lt-ltb, ltb-true}
 use Rattle.laws.specs.Truth.{clash, false-if}
 use Rattle.laws.specs.Scan.{lowest, nowhere→, →nowhere, total}
 use Rattle.laws.specs.declared.Lowest.{Lowest}
@@ -28,7 +28,7 @@ use Rattle.map.specs.Map.{mapAt, freeCount}
 use Rattle.view.specs.Disk.{File}
 use Rattle.view.specs.Counting.{takes}
 use Rattle.image.specs.Image.{filesIn, DiskRules}
-use Rattle.record.specs.Record.{shapeOf, Files, Call, check, page, put, remove, Outcome, accepted, refused, refuseIf, named, isEmpty, slotOf, emptySlot, free, judgePut, putting, stepFiles}
+use Rattle.record.specs.Record.{shapeOf, Files, Call, check, page, put, remove, Outcome, accepted, refused, refuseIf, named, isEmpty, slotOf, emptySlot, judgePut, putting, stepFiles}
 use Rattle.record.specs.declared.Judged.{Judged}
 use Rattle.record.specs.declared.Judged.the-variants.{Refuse, Grant}
 use Rattle.record.specs.Order.{roomFor, order-room}

@@ -1,6 +1,5 @@
 // S900 and S1000 sample files: unpacked to words, and packed. The two calls ask nothing of their caller; the other functions are theirs alone.
 ghost use mathlib.Core.Path.{_≡_};
-ghost use mathlib.Core.List.{map};
 ghost use Prim.Native.Nat.{_+_, _*_, _/_, _%_, _≤_, _<_};
 ghost use lib.Dec.{eqb};
 ghost use lib.ListN.{length};
@@ -11,7 +10,7 @@ ghost use Rattle.laws.specs.Splice.{splice};
 ghost use Rattle.laws.specs.Reader.{bytes, tab};
 ghost use Rattle.blocks.specs.Numbers.{Number};
 ghost use Rattle.words.specs.Parts.{parts};
-ghost use Rattle.words.specs.Words.{bitsOf, wordOf, firstBits, secondBits, pairAt, upperBits, packed900, unpacked900};
+ghost use Rattle.words.specs.Words.{bitsOf, wordOf, pairAt, upperBits, packed900, unpacked900};
 ghost use Rattle.samples.specs.Samples.{headerSize, countOffset, tableOf, dataSize, isWhole, packed1000, unpacked1000, packed, unpacked, headFault, fileFault, headerFault, isShort, isOutside, rangeFault, filled, unpackOf, packOf};
 use headers::Counted;
 use headers::Table;

@@ -8,7 +8,6 @@ ghost use Rattle.laws.specs.Reader.{bytes};
 ghost use Rattle.laws.specs.Scan.{lowest};
 ghost use Rattle.layout.specs.Layouts.{slotOffset};
 ghost use Rattle.layout.specs.Right.{LayoutRight};
-ghost use Rattle.blocks.specs.Numbers.{Number};
 ghost use Rattle.view.specs.Disk.{used};
 ghost use Rattle.view.specs.Rules.{malformed, repeated};
 ghost use Rattle.image.specs.Image.{viewOf};

@@ -6,7 +6,6 @@ use borrow.Author.Needs.{needs}
 use Rattle.laws.specs.Reader.{bytes}
 use Rattle.laws.specs.Scan.{lowest}
 use Rattle.laws.specs.declared.Lowest.the-variants.{Nowhere}
-use Rattle.view.specs.declared.Ruled.the-variants.{Pass}
 use Rattle.view.specs.Rules.{broken}
 use Rattle.image.specs.Image.{viewOf}
 use Rattle.chains.specs.Tally.{taken, marks-taken}
