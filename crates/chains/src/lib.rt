@@ -109,14 +109,14 @@ pub fn count_chained(head: &[u8], layout: layout::Layout) -> usize
     blocks
 }
 
-// How many data blocks are marked.
+// How many data blocks are marked. Counted in 16 bits, so that the compiler adds eight at a time.
 pub fn count_marked(layout: layout::Layout, marks: &[bool; 1600]) -> usize
     requires { ⌜ LayoutRight layout ⌝ }
     ensures { λ r. ⌜ r ≡ count (λ b. getD (now (marks .entry)) b false) (layout .first) (layout .blocks - layout .first) ⌝ }
 {
     let first = layout.first;
     let end = layout.blocks;
-    let mut marked = 0;
+    let mut marked = 0u16;
     let mut block = first;
     while block < end {
         if marks[block] {
@@ -124,7 +124,7 @@ pub fn count_marked(layout: layout::Layout, marks: &[bool; 1600]) -> usize
         }
         block += 1;
     }
-    marked
+    marked as usize
 }
 
 // The lowest slot whose chain shares a block with a lower slot's (refusal 8). The marks are left as those of all chains where
@@ -191,13 +191,13 @@ pub fn stray_fault(head: &[u8], layout: layout::Layout, marks: &[bool; 1600]) ->
     laws::Lowest::Nowhere
 }
 
-// The number of free blocks.
+// The number of free blocks. Counted in 16 bits, so that the compiler adds eight at a time.
 pub fn count_free(head: &[u8], layout: layout::Layout) -> usize
     requires { ⌜ LayoutRight layout × (blockOffset (layout .first) ≤ length (now head)) ⌝ }
     ensures { λ r. ⌜ r ≡ freeCount layout (mapAt (bytes (now (head .entry)))) ⌝ }
 {
     let end = layout.blocks;
-    let mut free = 0;
+    let mut free = 0u16;
     let mut block = layout.first;
     while block < end {
         if map::map_at(head, block) == 0 {
@@ -205,7 +205,7 @@ pub fn count_free(head: &[u8], layout: layout::Layout) -> usize
         }
         block += 1;
     }
-    free
+    free as usize
 }
 
 // The lowest data block with a nonzero map value that is on no chain (refusal 9). Where the marked and the free blocks are all, there is none.

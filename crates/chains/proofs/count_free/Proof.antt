@@ -10,7 +10,7 @@ use lib.Dec.{eqb}
 use borrow.Author.Needs.{needs}
 use borrow.Author.Tests.{eq-eqb, ne-eqb}
 use Rattle.laws.specs.Reader.{bytes}
-use Rattle.laws.specs.Scan.{count, count-end, count-stop, count-on}
+use Rattle.laws.specs.Scan.{count, count-end, count-stop, count-on, count-split}
 use Rattle.map.specs.Map.{mapAt, freeCount}
 use Rattle.chains.proofs.count_free.Statement.{statement}
 use Rattle.chains.proofs.count_free.Tie as tie
@@ -47,6 +47,11 @@ loop-again c =
     ⊎-elim (λ w. (omega arith, omega (arith, count-stop free _ _ (d .loop-test .taken) (eq-eqb _ _ (sym e ∙ w .0 .taken)))))
     (λ w. (omega arith, omega (arith, count-on free _ _ (d .loop-test .taken) (ne-eqb _ _ (λ z. w .0 .left (e ∙ z)))))) (c .if1 .came)
 
+cast-result : tie.Need-cast-result Inv-loop μ-loop
+cast-result c =
+    let s = c .before .before .before in
+    omega (arith, s .pre .0 .blocks-most, count-split (isFree (s .args .head .now)) (s .args .layout .first) (s .args .layout .blocks - s .args .layout .first))
+
 returns : tie.Need-returns Inv-loop μ-loop
 unfolding freeCount
 returns c = omega (arith, count-end (isFree (c .before .before .before .args .head .now)) _ _ (c .loop-test .left))
@@ -63,4 +68,5 @@ count-free-spec =
     add-block
     loop-less
     loop-again
+    cast-result
     returns)

@@ -8,7 +8,7 @@ use Prim.Native.Nat.{ℕ, _+_, _-_, _≤_}
 use native.Mathlib.Omega.{arith}
 use borrow.Author.Needs.{needs}
 use lib.ListN.{getD}
-use Rattle.laws.specs.Scan.{count, count-end, count-stop, count-on}
+use Rattle.laws.specs.Scan.{count, count-end, count-stop, count-on, count-split}
 use Rattle.chains.proofs.count_marked.Statement.{statement}
 use Rattle.chains.proofs.count_marked.Tie as tie
 
@@ -43,6 +43,11 @@ loop-again c =
     ⊎-elim (λ w. (omega arith, omega (arith, count-stop f _ _ (d .loop-test .taken) (w .0 .taken))))
     (λ w. (omega arith, omega (arith, count-on f _ _ (d .loop-test .taken) (w .0 .left)))) (c .if1 .came)
 
+cast-result : tie.Need-cast-result Inv-loop μ-loop
+cast-result c =
+    let s = c .before .before in
+    omega (arith, s .pre .blocks-most, count-split (isMarked (s .args .marks .now)) (s .args .layout .first) (s .args .layout .blocks - s .args .layout .first))
+
 returns : tie.Need-returns Inv-loop μ-loop
 returns c = omega (arith, count-end (isMarked (c .before .before .args .marks .now)) _ _ (c .loop-test .left))
 
@@ -58,4 +63,5 @@ count-marked-spec =
     add-block
     loop-less
     loop-again
+    cast-result
     returns)
