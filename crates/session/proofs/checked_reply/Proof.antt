@@ -1,7 +1,6 @@
 -- `session::checked_reply` meets its contract: the reply is the check's refusal, whatever name might stand beside it.
 -- By the check's cases. Assumes nothing.
 use mathlib.Core.Path.{sym, ap, _∙_}
-use Prim.Native.Nat.{_-_}
 use borrow.Author.Needs.{needs}
 use Rattle.rules.specs.declared.Checked.{Checked}
 use Rattle.rules.specs.Check.{answerOf}

@@ -1,7 +1,6 @@
 -- `session::is_in` meets its contract: bytes fit where their offset does and what is left holds them.
 -- By the test on the offset. Assumes nothing.
 use mathlib.Core.Path.{refl}
-use Prim.Native.Nat.{_-_}
 use native.Mathlib.Omega.{arith}
 use borrow.Author.Tests.{le-leb, lt-leb}
 use Rattle.session.proofs.is_in.Statement.{statement}

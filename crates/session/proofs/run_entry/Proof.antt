@@ -1,7 +1,6 @@
 -- `session::run_entry` meets its contract: list and page, or a call whose name lies in the pool; any other is no call.
 -- By the tests on the number and on the name's place, in the definition's order. Assumes nothing.
 use mathlib.Core.Path.{sym, ap, _∙_}
-use Prim.Native.Nat.{_-_}
 use borrow.Author.Needs.{needs}
 use mathlib.Core.Option.{Option}
 use Rattle.record.specs.Record.{Call}

@@ -1,7 +1,6 @@
 -- `session::run_named` meets its contract: find, remove and put by the entry's number, any other is no call.
 -- By the tests on the number, in the definition's order. Assumes nothing.
 use mathlib.Core.Path.{sym, ap, _∙_}
-use Prim.Native.Nat.{_-_}
 use borrow.Author.Needs.{needs}
 use mathlib.Core.Option.{Option}
 use Rattle.record.specs.Record.{Call}

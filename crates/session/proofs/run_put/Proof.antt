@@ -1,7 +1,6 @@
 -- `session::run_put` meets its contract: a content that lies in the pool is put, any other is no call.
 -- By the test on the content's place. Assumes nothing.
 use mathlib.Core.Path.{sym, _∙_}
-use Prim.Native.Nat.{_-_}
 use borrow.Author.Needs.{needs}
 use denote.Ref.{now}
 use borrow.Author.Tests.{not-true, not-false}

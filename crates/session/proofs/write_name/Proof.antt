@@ -1,7 +1,6 @@
 -- `session::write_name` meets its contract: a copy of all 12 bytes is a write of the name.
 -- From what `copy_part` ensures. Assumes nothing.
 use mathlib.Core.Path.{ap, _∙_}
-use Prim.Native.Nat.{_-_}
 use native.Mathlib.Omega.{arith}
 use borrow.Author.Needs.{needs}
 use denote.Ref.{now}

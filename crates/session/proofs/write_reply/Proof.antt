@@ -1,6 +1,5 @@
 -- `session::write_reply` meets its contract: five writes that follow one another are one write of the reply's bytes.
 -- By `reply-written`. Assumes nothing.
-use Prim.Native.Nat.{_-_}
 use native.Mathlib.Omega.{arith}
 use borrow.Author.Needs.{needs}
 use denote.Ref.{now}
