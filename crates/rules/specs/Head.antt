@@ -38,11 +38,11 @@ head-holds S1000 High = omega arith
 module _ (b c : ℕ → ℕ) (agree : (i : ℕ) → i < 5120 → c i ≡ b i) where
   -- of a layout whose directory and map lie in the head
   module _ (l : Layout) (right : LayoutRight l) (head : blockOffset (l .first) ≤ 5120) where
-    maps : (k : ℕ) → k < l .blocks → mapAt c k ≡ mapAt b k
-    maps k h = number-cong 2 b c (mapOffset k) (λ i p q. agree i (omega (arith, right .map-low)))
+    pub same-map : (k : ℕ) → k < l .blocks → mapAt c k ≡ mapAt b k
+    same-map k h = number-cong 2 b c (mapOffset k) (λ i p q. agree i (omega (arith, right .map-low)))
 
-    entries : (s : ℕ) → s < l .slots → viewOf l c .entry s ≡ viewOf l b .entry s
-    entries s h = entry-cong b c (slotOffset l s) (λ i p q. agree i (omega (arith, right .directory-low)))
+    pub same-entry : (s : ℕ) → s < l .slots → viewOf l c .entry s ≡ viewOf l b .entry s
+    same-entry s h = entry-cong b c (slotOffset l s) (λ i p q. agree i (omega (arith, right .directory-low)))
 
     identities : (s : ℕ) → s < l .slots → identityAt l c s ≡ identityAt l b s
     identities s h = number-cong 2 b c (slotOffset l s + 22) (λ i p q. agree i (omega (arith, right .directory-low)))
@@ -50,13 +50,13 @@ module _ (b c : ℕ → ℕ) (agree : (i : ℕ) → i < 5120 → c i ≡ b i) wh
     same-used : usedCount l (viewOf l c) ≡ usedCount l (viewOf l b)
     unfolding usedCount
     same-used =
-        count-cong (λ s. used (viewOf l c .entry s)) (λ s. used (viewOf l b .entry s)) 0 (l .slots) (λ s p q. ap used (entries s (omega arith)))
+        count-cong (λ s. used (viewOf l c .entry s)) (λ s. used (viewOf l b .entry s)) 0 (l .slots) (λ s p q. ap used (same-entry s (omega arith)))
 
     same-free : freeCount l (mapAt c) ≡ freeCount l (mapAt b)
     unfolding freeCount
     same-free =
         count-cong (λ k. eqb (mapAt c k) 0) (λ k. eqb (mapAt b k) 0) (l .first) (l .blocks - l .first)
-        (λ k p q. ap (λ (x : ℕ). eqb x 0) (maps k (omega (arith, right .data-some))))
+        (λ k p q. ap (λ (x : ℕ). eqb x 0) (same-map k (omega (arith, right .data-some))))
 
   same-as : (k : Kind) (d : Density) → checkAs k d c ≡ checkAs k d b
   unfolding checkAs
@@ -65,7 +65,7 @@ module _ (b c : ℕ → ℕ) (agree : (i : ℕ) → i < 5120 → c i ≡ b i) wh
       let right = layout-right k d in
       let head = head-holds k d in
       rw (
-        same-rules l right (viewOf l b) (viewOf l c) (maps l right head) (entries l right head),
+        same-rules l right (viewOf l b) (viewOf l c) (same-map l right head) (same-entry l right head),
         same-used l right head,
         same-free l right head,
       ) refl
@@ -93,13 +93,15 @@ module _ (b c : ℕ → ℕ) (agree : (i : ℕ) → i < 5120 → c i ≡ b i) wh
   unfolding checkHead
   same-check n = density-by (densityOf n)
 
+-- lists with the same head read alike there
+pub head-agree : (x y : List ℕ) → take 5120 y ≡ take 5120 x → (i : ℕ) → i < 5120 → bytes y i ≡ bytes x i
+head-agree x y e i h = sym (getD-take 5120 y i 0 h) ∙ ap (λ (z : List ℕ). bytes z i) e ∙ getD-take 5120 x i 0 h
+
 -- A head that has the image's first 5,120 bytes, or all of them, suffices.
 pub start-check : (head img : List ℕ) → min (length img) 5120 ≤ length head → take 5120 head ≡ take 5120 img → checkStart head (length img) ≡ checkOf img
 unfolding checkStart
 start-check head img n e =
-    rw (le-ltb (length head) (min (length img) 5120) n)
-    (same-check (bytes img) (bytes head)
-    (λ i h. sym (getD-take 5120 head i 0 h) ∙ ap (λ (x : List ℕ). bytes x i) e ∙ getD-take 5120 img i 0 h) (length img))
+    rw (le-ltb (length head) (min (length img) 5120) n) (same-check (bytes img) (bytes head) (head-agree img head e) (length img))
 
 -- The listing program's head: the first 5,120 bytes.
 pub head-check : (img : List ℕ) → checkStart (take 5120 img) (length img) ≡ checkOf img

@@ -1,0 +1,232 @@
+-- What a caller must fetch of an image: its first 5,120 bytes for every answer but a page's bytes, and for those the file's own blocks.
+-- Directory and map lie in the first 5,120 bytes, so entries and chains agree; a content is read from its chain's blocks alone. Assumes nothing.
+use mathlib.Core.Path.{_≡_, refl, sym, ap, _∙_}
+use mathlib.Core.Bool.{Bool, true, false, not}
+use mathlib.Core.List.{List, [], _∷_}
+use mathlib.Core.Option.{Option, none, some}
+use Prim.Native.Nat.{ℕ, _<_}
+use native.Mathlib.Decide.{decLt}
+use native.Mathlib.Omega.{arith}
+use lib.Dec.{ltb}
+use lib.ListN.{length, take}
+use borrow.Author.Tests.{lt-ltb, le-ltb, ltb-false}
+use Rattle.laws.specs.Member.{In}
+use Rattle.laws.specs.Scan.{lowest-cong}
+use Rattle.laws.specs.declared.Lowest.{Lowest}
+use Rattle.laws.specs.Splice.{part, part-splice}
+use Rattle.laws.specs.Reader.{bytes}
+use Rattle.layout.specs.declared.Kind.{Kind}
+use Rattle.layout.specs.declared.Density.{Density}
+use Rattle.layout.specs.declared.Layout.{Layout}
+use Rattle.layout.specs.Layouts.{layoutOf}
+use Rattle.layout.specs.Right.{LayoutRight, layout-right}
+use Rattle.blocks.specs.Blocks.{linksFor, blockAt, read-cong}
+use Rattle.names.specs.Names.{legalName}
+use Rattle.map.specs.Map.{mapAt}
+use Rattle.map.specs.Chains.{chain-cong, chain-data}
+use Rattle.view.specs.Disk.{File, used, entryChain, chainOf, contentOf, filesOf}
+use Rattle.image.specs.Image.{viewOf, filesIn, DiskRules}
+use Rattle.record.specs.Record.{Call, list, find, page, Outcome, named, refuseIf, orRefuse, slotOf, fileAt, judgeName, listing, paging}
+use Rattle.record.specs.declared.Judged.{Judged}
+use Rattle.record.specs.declared.Judged.the-variants.{Grant}
+use Rattle.rules.specs.declared.Checked.{Checked}
+use Rattle.rules.specs.declared.Checked.the-variants.{Accepted, Refused}
+use Rattle.rules.specs.Check.{checkOf, answerOf, callOf}
+use Rattle.rules.specs.Accepted.{accepted-rules}
+use Rattle.rules.specs.Head.{head-holds, head-agree, head-decides, same-map, same-entry}
+use Rattle.calls.specs.Answers.{foundOf, foundBy, call-refused}
+use Rattle.calls.specs.Slots.{file-above, file-empty, file-used, file-length}
+use Rattle.calls.specs.Done.{list-done, find-done, page-done}
+use Rattle.locate.specs.Locate as locate
+use Rattle.locate.specs.Locate.{fileBlocks, storing, blocksBy, blocksOf}
+
+-- y has x's length and x's first 5,120 bytes.
+pub record SameHead (x y : List ℕ) : Type 0 where
+  pub size : length y ≡ length x
+  pub head : take 5120 y ≡ take 5120 x
+
+-- The blocks that a call for them gave.
+abbrev pub given : locate.Outcome → List ℕ
+given o = take (o .answer .count) (o .output)
+
+-- A call answers alike on both, and leaves the same output.
+pub record Alike (x y : List ℕ) (c : Call) : Type 0 where
+  pub answer : callOf y c .answer ≡ callOf x c .answer
+  pub output : callOf y c .output ≡ callOf x c .output
+
+module _ (x y : List ℕ) (same : SameHead x y) where
+  check-same : checkOf y ≡ checkOf x
+  check-same = head-decides y x (same .size) (same .head)
+
+  -- ---- accepted images
+
+  module _ {k : Kind} {d : Density} {f n : ℕ} (yes-x : checkOf x ≡ Accepted k d f n) where
+    abbrev l : Layout
+    l = layoutOf k d
+
+    right : LayoutRight l
+    right = layout-right k d
+
+    yes-y : checkOf y ≡ Accepted k d f n
+    yes-y = check-same ∙ yes-x
+
+    rules-x : DiskRules l x
+    rules-x = accepted-rules k d f n x yes-x
+
+    rules-y : DiskRules l y
+    rules-y = accepted-rules k d f n y yes-y
+
+    entry-same : (s : ℕ) → s < l .slots → viewOf l (bytes y) .entry s ≡ viewOf l (bytes x) .entry s
+    entry-same = same-entry (bytes x) (bytes y) (head-agree x y (same .head)) l right (head-holds k d)
+
+    chain-same : (s : ℕ) → s < l .slots → used (viewOf l (bytes x) .entry s) ≡ true
+        → entryChain (mapAt (bytes y)) (viewOf l (bytes y) .entry s) ≡ entryChain (mapAt (bytes x)) (viewOf l (bytes x) .entry s)
+    unfolding entryChain
+    chain-same s h u =
+        let e = viewOf l (bytes x) .entry s in
+        let c = rules-x .valid .linked s (h, u) in
+        rw (entry-same s h)
+        (chain-cong (mapAt (bytes x)) (mapAt (bytes y)) (linksFor (e .size)) (e .start)
+        (λ b i. same-map (bytes x) (bytes y) (head-agree x y (same .head)) l right (head-holds k d) b (chain-data l right (mapAt (bytes x)) _ _ b c i .1)))
+
+    blocks-by : (s : ℕ) → Dec (s < l .slots) → (u : Bool) → used (viewOf l (bytes x) .entry s) ≡ u → fileBlocks l y s ≡ fileBlocks l x s
+    unfolding fileBlocks chainOf
+    blocks-by s (no h) u e = rw (le-ltb s (l .slots) (omega arith)) refl
+    blocks-by s (yes h) false e = rw (lt-ltb s (l .slots) h, ap used (entry-same s h) ∙ e, e) refl
+    blocks-by s (yes h) true e = rw (lt-ltb s (l .slots) h, ap used (entry-same s h) ∙ e, e) (chain-same s h e)
+
+    -- a slot's name, type and length
+    listing-by : (s : ℕ) → Dec (s < l .slots) → (u : Bool) → used (viewOf l (bytes x) .entry s) ≡ u
+        → listing y (fileAt l (filesIn l y) s) .answer ≡ listing x (fileAt l (filesIn l x) s) .answer
+    listing-by s (no h) u e = rw (file-above l y s (omega arith), file-above l x s (omega arith)) refl
+    listing-by s (yes h) false e = rw (file-empty l y s h (ap used (entry-same s h) ∙ e), file-empty l x s h e) refl
+    listing-by s (yes h) true e =
+        let e-y = ap used (entry-same s h) ∙ e in
+        rw (file-used l y s h e-y, file-used l x s h e, file-length l y s right rules-y h e-y, file-length l x s right rules-x h e, entry-same s h) refl
+
+    named-by : (name : List ℕ) (s : ℕ) → s < l .slots → (u : Bool) → used (viewOf l (bytes x) .entry s) ≡ u → named name (filesIn l y s) ≡ named name (filesIn l x s)
+    unfolding filesOf
+    named-by name s h false e = rw (lt-ltb s (l .slots) h, ap used (entry-same s h) ∙ e, e) refl
+    named-by name s h true e = rw (lt-ltb s (l .slots) h, ap used (entry-same s h) ∙ e, e, entry-same s h) refl
+
+    judge-same : (name : List ℕ) → judgeName l (filesIn l y) name ≡ judgeName l (filesIn l x) name
+    unfolding judgeName slotOf
+    judge-same name =
+        ap (λ (w : Lowest). refuseIf (not (legalName l name)) 11 (orRefuse 10 w (λ s. Grant s)))
+        (lowest-cong (λ s. named name (filesIn l y s)) (λ s. named name (filesIn l x s)) 0 (l .slots)
+        (λ s p q. named-by name s (omega arith) (used (viewOf l (bytes x) .entry s)) refl))
+
+    -- a file's content, where y holds the slot's blocks
+    module _ (s : ℕ) (held : (b : ℕ) → In b (fileBlocks l x s) → blockAt (bytes y) b ≡ blockAt (bytes x) b) where
+      content-same : s < l .slots → used (viewOf l (bytes x) .entry s) ≡ true
+          → contentOf (viewOf l (bytes y)) (viewOf l (bytes y) .entry s) ≡ contentOf (viewOf l (bytes x)) (viewOf l (bytes x) .entry s)
+      unfolding contentOf fileBlocks chainOf
+      content-same h u =
+          rw (chain-same s h u, entry-same s h)
+          (ap (take (viewOf l (bytes x) .entry s .size))
+          (read-cong (blockAt (bytes x)) (blockAt (bytes y)) (entryChain (mapAt (bytes x)) (viewOf l (bytes x) .entry s)) (λ b i. held b (rw (lt-ltb s (l .slots) h, u) i))))
+
+      file-by : Dec (s < l .slots) → (u : Bool) → used (viewOf l (bytes x) .entry s) ≡ u → fileAt l (filesIn l y) s ≡ fileAt l (filesIn l x) s
+      file-by (no h) u e = rw (file-above l y s (omega arith), file-above l x s (omega arith)) refl
+      file-by (yes h) false e = rw (file-empty l y s h (ap used (entry-same s h) ∙ e), file-empty l x s h e) refl
+      file-by (yes h) true e = rw (file-used l y s h (ap used (entry-same s h) ∙ e), file-used l x s h e, content-same h e, entry-same s h) refl
+
+-- ---- what an answer doesn't take from the image
+
+listing-output : (img : List ℕ) (w : Option File) → listing img w .output ≡ []
+listing-output img none = refl
+listing-output img (some f) = refl
+
+paging-by : (x y : List ℕ) (w : Option File) (offset : ℕ) (out : List ℕ)
+    → (paging y w offset out .answer ≡ paging x w offset out .answer) × (paging y w offset out .output ≡ paging x w offset out .output)
+paging-by x y none offset out = (refl, refl)
+paging-by x y (some f) offset out = go (ltb (length (f .content)) offset) refl
+  where
+    go : (t : Bool) → ltb (length (f .content)) offset ≡ t
+        → (paging y (some f) offset out .answer ≡ paging x (some f) offset out .answer) × (paging y (some f) offset out .output ≡ paging x (some f) offset out .output)
+    go true e = rw e (refl, refl)
+    go false e = rw e (refl, refl)
+
+-- the blocks given are those stored, unless there was no room
+given-all : (blocks room : List ℕ) → (storing blocks room .answer .refusal ≡ 21 → ⊥) → given (storing blocks room) ≡ blocks
+unfolding part
+given-all [] room n = refl
+given-all (b ∷ bs) room n = go (ltb (length room) (length (b ∷ bs))) refl
+  where
+    go : (t : Bool) → ltb (length room) (length (b ∷ bs)) ≡ t → given (storing (b ∷ bs) room) ≡ b ∷ bs
+    go true e = absurd (n (rw e refl))
+    go false e = rw e (part-splice room 0 (b ∷ bs) (omega (arith, ltb-false (length room) (length (b ∷ bs)) e)))
+
+-- ---- the theorems: y has x's length and first 5,120 bytes
+
+module _ (x y : List ℕ) (same : SameHead x y) where
+  refused-alike : {n p : ℕ} → checkOf x ≡ Refused n p → (c : Call) → Alike x y c
+  refused-alike e c =
+      let a = call-refused x c refl e in
+      let b = call-refused y c refl (check-same x y same ∙ e) in
+      let t = check-same x y same in
+      record {
+        answer = ap (λ (o : Outcome (List ℕ)). o .answer) (sym b) ∙ ap answerOf t ∙ ap (λ (o : Outcome (List ℕ)). o .answer) a;
+        output = ap (λ (o : Outcome (List ℕ)). o .output) (sym b) ∙ ap (λ (o : Outcome (List ℕ)). o .output) a;
+      }
+
+  -- A list answers from them alone.
+  pub list-enough : (s : ℕ) → Alike x y (list s)
+  list-enough s = go (checkOf x) refl
+    where
+      go : (c : Checked) → checkOf x ≡ c → Alike x y (list s)
+      go (Refused n p) e = refused-alike e (list s)
+      go (Accepted k d f n) e =
+          let l = layoutOf k d in
+          let a = list-done x refl e refl s in
+          let b = list-done y refl (check-same x y same ∙ e) refl s in
+          record {
+            answer = ap (λ (o : Outcome (List ℕ)). o .answer) (sym b) ∙ listing-by x y same e s (decLt s (l .slots)) (used (viewOf l (bytes x) .entry s)) refl ∙ ap (λ (o : Outcome (List ℕ)). o .answer) a;
+            output = ap (λ (o : Outcome (List ℕ)). o .output) (sym b) ∙ listing-output y (fileAt l (filesIn l y) s) ∙ sym (listing-output x (fileAt l (filesIn l x) s)) ∙ ap (λ (o : Outcome (List ℕ)). o .output) a;
+          }
+
+  -- So does a find.
+  pub find-enough : (name : List ℕ) → Alike x y (find name)
+  find-enough name = go (checkOf x) refl
+    where
+      go : (c : Checked) → checkOf x ≡ c → Alike x y (find name)
+      go (Refused n p) e = refused-alike e (find name)
+      go (Accepted k d f n) e =
+          let a = find-done x refl e refl name refl refl in
+          let b = find-done y refl (check-same x y same ∙ e) refl name refl refl in
+          record {
+            answer = ap (λ (o : Outcome (List ℕ)). o .answer) (sym b) ∙ ap (λ (j : Judged). foundOf (foundBy j)) (judge-same x y same e name) ∙ ap (λ (o : Outcome (List ℕ)). o .answer) a;
+            output = ap (λ (o : Outcome (List ℕ)). o .output) (sym b) ∙ ap (λ (o : Outcome (List ℕ)). o .output) a;
+          }
+
+  -- So does a call for a file's blocks.
+  pub blocks-enough : (s : ℕ) (out : List ℕ) → blocksOf y s out ≡ blocksOf x s out
+  unfolding blocksOf
+  blocks-enough s out = rw (check-same x y same) (go (checkOf x) refl)
+    where
+      go : (c : Checked) → checkOf x ≡ c → blocksBy c y s out ≡ blocksBy c x s out
+      go (Refused n p) e = refl
+      go (Accepted k d f n) e =
+          let l = layoutOf k d in
+          ap (λ (bs : List ℕ). storing bs out) (blocks-by x y same e s (decLt s (l .slots)) (used (viewOf l (bytes x) .entry s)) refl)
+
+  -- A page needs the blocks besides that such a call gave, to an output with room for them.
+  pub page-enough : (s : ℕ) (room : List ℕ) → (blocksOf x s room .answer .refusal ≡ 21 → ⊥)
+      → ((b : ℕ) → In b (given (blocksOf x s room)) → blockAt (bytes y) b ≡ blockAt (bytes x) b)
+      → (offset : ℕ) (out : List ℕ) → Alike x y (page s offset out)
+  unfolding blocksOf
+  page-enough s room fits held offset out = go (checkOf x) refl
+    where
+      go : (c : Checked) → checkOf x ≡ c → Alike x y (page s offset out)
+      go (Refused n p) e = refused-alike e (page s offset out)
+      go (Accepted k d f n) e =
+          let l = layoutOf k d in
+          let a = page-done x refl e refl s offset out in
+          let b = page-done y refl (check-same x y same ∙ e) refl s offset out in
+          let all = given-all (fileBlocks l x s) room (rw e at fits) in
+          let file = file-by x y same e s (λ b i. (rw e at held) b (rw all i)) (decLt s (l .slots)) (used (viewOf l (bytes x) .entry s)) refl in
+          let p = paging-by x y (fileAt l (filesIn l x) s) offset out in
+          record {
+            answer = ap (λ (o : Outcome (List ℕ)). o .answer) (sym b) ∙ rw file (p .0) ∙ ap (λ (o : Outcome (List ℕ)). o .answer) a;
+            output = ap (λ (o : Outcome (List ℕ)). o .output) (sym b) ∙ rw file (p .1) ∙ ap (λ (o : Outcome (List ℕ)). o .output) a;
+          }
