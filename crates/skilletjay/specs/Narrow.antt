@@ -1,11 +1,15 @@
 -- A refusal's number cut to C's 32 bits is the number: no call answers one that the cut changes.
 -- Every number of an answer takes at most three bytes (`call-small`, rules/specs/Small.antt). Assumes nothing.
 use mathlib.Core.Path.{_≡_, refl, sym, ap, _∙_}
-use mathlib.Core.List.{List}
+use mathlib.Core.Bool.{Bool, true, false}
+use mathlib.Core.List.{List, [], _∷_}
 use Prim.Native.Nat.{ℕ, _%_}
 use native.Mathlib.Omega.{arith}
+use lib.Dec.{ltb}
+use lib.ListN.{length}
 use Rattle.layout.specs.declared.Kind.{Kind}
 use Rattle.layout.specs.declared.Density.{Density}
+use Rattle.layout.specs.Layouts.{layoutOf}
 use Rattle.record.specs.Record.{Call, check, Answer, accepted, entry, slotIs, paged, done, refused, Outcome}
 use Rattle.rules.specs.declared.Checked.{Checked}
 use Rattle.rules.specs.declared.Checked.the-variants.{Accepted, Refused}
@@ -13,7 +17,8 @@ use Rattle.rules.specs.Check.{checkOf, answerOf, callOf}
 use Rattle.rules.specs.Demand.{check-call}
 use Rattle.rules.specs.Small.{AllSmall, call-small}
 use Rattle.calls.specs.Answers.{came}
-use Rattle.skilletjay.specs.Results.{kindNumber, densityNumber, checkedResult, listedRefusal, listedWith, foundRefusal, foundResult, pagedRefusal, pagedResult, doneResult}
+use Rattle.locate.specs.Locate.{Numbers, refusedBy, uncheckedBy, fileBlocks, storing, blocksBy, blocksOf}
+use Rattle.skilletjay.specs.Results.{kindNumber, densityNumber, checkedResult, listedRefusal, listedWith, foundRefusal, foundResult, pagedRefusal, pagedResult, doneResult, blocksResult}
 use Rattle.skilletjay.specs.declared.CDone.{CDone}
 
 -- An answer with its number cut to 32 bits.
@@ -62,3 +67,34 @@ found-unchecked (Refused n p) e = rw e refl
 pub paged-unchecked : (w : Checked) {d : CDone} → d ≡ doneResult (narrow (answerOf w)) → pagedRefusal (d .refusal) (d .place) ≡ pagedResult (narrow (answerOf w))
 paged-unchecked (Accepted k d f n) e = rw e refl
 paged-unchecked (Refused n p) e = rw e refl
+
+-- ---- a file's blocks
+
+-- An answer's numbers with the refusal cut to 32 bits.
+abbrev pub cut : Numbers → Numbers
+cut n = record { refusal = n .refusal % 4294967296; place = n .place; count = n .count }
+
+-- A call that the check refused.
+pub located-unchecked : (w : Checked) {d : CDone} → d ≡ doneResult (narrow (answerOf w)) → blocksResult (refusedBy (d .refusal) (d .place)) ≡ blocksResult (cut (uncheckedBy w))
+located-unchecked (Accepted k d f n) e = rw e refl
+located-unchecked (Refused n p) e = rw e refl
+
+check-small : (img : List ℕ) {n p : ℕ} → checkOf img ≡ Refused n p → n % 4294967296 ≡ n
+check-small img e = let h = rw (check-call img, e) at (call-small img check) in let k = h .0 in omega arith
+
+stored-cut : (blocks out : List ℕ) → cut (storing blocks out .answer) ≡ storing blocks out .answer
+stored-cut [] out = refl
+stored-cut (b ∷ bs) out = go (ltb (length out) (length (b ∷ bs))) refl
+  where
+    go : (t : Bool) → ltb (length out) (length (b ∷ bs)) ≡ t → cut (storing (b ∷ bs) out .answer) ≡ storing (b ∷ bs) out .answer
+    go true e = rw e refl
+    go false e = rw e refl
+
+-- The cut changes no number of theirs.
+pub blocks-cut : (img : List ℕ) (s : ℕ) (out : List ℕ) → cut (blocksOf img s out .answer) ≡ blocksOf img s out .answer
+unfolding blocksOf
+blocks-cut img s out = go (checkOf img) refl
+  where
+    go : (c : Checked) → checkOf img ≡ c → cut (blocksBy (checkOf img) img s out .answer) ≡ blocksBy (checkOf img) img s out .answer
+    go (Refused n p) e = rw e (ap (λ (x : ℕ). refusedBy x p) (check-small img e))
+    go (Accepted k d f n) e = rw e (stored-cut (fileBlocks (layoutOf k d) img s) out)

@@ -15,6 +15,7 @@ use Rattle.skilletjay.specs.declared.CChecked.{CChecked}
 use Rattle.skilletjay.specs.declared.CListed.{CListed}
 use Rattle.skilletjay.specs.declared.CFound.{CFound}
 use Rattle.skilletjay.specs.declared.CPaged.{CPaged}
+use Rattle.locate.specs.Locate.{Numbers}
 use Rattle.headers.specs.declared.Counted.{Counted}
 use Rattle.headers.specs.declared.Counted.the-variants.{Done, Refused}
 use Rattle.skilletjay.specs.declared.CDone.{CDone}
@@ -98,6 +99,11 @@ doneResult (slotIs slot) = doneRefusal 0 0
 doneResult (paged count end) = doneRefusal 0 0
 doneResult done = doneRefusal 0 0
 doneResult (refused number place) = doneRefusal number place
+
+-- ---- a file's blocks
+
+abbrev pub blocksResult : Numbers → CCounted
+blocksResult n = record { refusal = n .refusal; place = n .place; count = n .count }
 
 -- ---- sample and program files
 

@@ -4,11 +4,12 @@ ghost use Prim.Native.Nat.{_%_};
 ghost use Rattle.record.specs.Record.{check};
 ghost use Rattle.rules.specs.Check.{answerOf, callOf};
 ghost use Rattle.calls.specs.Answers.{foundOf, pagedOf, listedOf, removedOf, listCall, findCall, pageCall, putCall, removeCall};
+ghost use Rattle.locate.specs.Locate.{numbersOf, blocksOf};
 ghost use Rattle.session.specs.Script.{afterRun, runOf};
 ghost use Rattle.samples.specs.Samples.{unpackOf, packOf};
 ghost use Rattle.program.specs.Program.{programOf};
-ghost use Rattle.skilletjay.specs.Results.{kindNumber, densityNumber, checkedResult, listedRefusal, listedWith, listedResult, foundRefusal, foundResult, pagedRefusal, pagedResult, doneResult, countedResult};
-ghost use Rattle.skilletjay.specs.Narrow.{narrow};
+ghost use Rattle.skilletjay.specs.Results.{kindNumber, densityNumber, checkedResult, listedRefusal, listedWith, listedResult, foundRefusal, foundResult, pagedRefusal, pagedResult, doneResult, countedResult, blocksResult};
+ghost use Rattle.skilletjay.specs.Narrow.{narrow, cut};
 use samples::Sampler;
 
 // sj_checked: kind 900 or 1000, density 0 low or 1 high, the number of files and of free blocks.
@@ -56,7 +57,7 @@ pub struct CDone {
     pub place: usize,
 }
 
-// sj_counted: words of a sample, bytes of a file, keygroups of a program.
+// sj_counted: blocks of a file, words of a sample, bytes of a file, keygroups of a program.
 #[repr(C)]
 pub struct CCounted {
     pub refusal: u32,
@@ -275,6 +276,32 @@ fn counted_result(counted: headers::Counted) -> CCounted
     }
 }
 
+// What C gets of a call for a file's blocks.
+fn located_result(located: locate::Located) -> CCounted
+    ensures { λ r. ⌜ r ≡ blocksResult (cut (numbersOf located)) ⌝ }
+{
+    match located {
+        locate::Located::Blocks(count) => CCounted {
+            refusal: 0,
+            place: 0,
+            count,
+        },
+        locate::Located::Refusal { number, place } => CCounted {
+            refusal: number_of(number),
+            place,
+            count: 0,
+        },
+        locate::Located::Unchecked(checked) => {
+            let done = checked_done(checked);
+            CCounted {
+                refusal: done.refusal,
+                place: done.place,
+                count: 0,
+            }
+        }
+    }
+}
+
 // Whether an image is accepted: refusals 1 to 9. The image is lent and kept.
 #[no_mangle]
 pub extern "C" fn sj_check(image: &[u8]) -> CChecked
@@ -307,6 +334,16 @@ pub extern "C" fn sj_page(image: &[u8], slot: usize, offset: usize, out: &mut [u
     ensures output { λ _. ⌜ now (out .exit) ≡ callOf (now (image .entry)) (pageCall slot offset (now (out .entry))) .output ⌝ }
 {
     paged_result(calls::page(image, slot, offset, out))
+}
+
+// The blocks that hold a slot's file, in order, to the output's front, and how many they are: refusals 1 to 9, then 10, then 21. The image is
+// lent and kept; the output's other numbers are kept, and all of them on a refusal.
+#[no_mangle]
+pub extern "C" fn sj_blocks(image: &[u8], slot: usize, out: &mut [u16]) -> CCounted
+    ensures answer { λ r. ⌜ r ≡ blocksResult (blocksOf (now (image .entry)) slot (now (out .entry)) .answer) ⌝ }
+    ensures output { λ _. ⌜ now (out .exit) ≡ blocksOf (now (image .entry)) slot (now (out .entry)) .output ⌝ }
+{
+    located_result(locate::file_blocks(image, slot, out))
 }
 
 // Puts a file into the lowest empty slot and the lowest free blocks: refusals 1 to 9, then 11, 13, 12 at the slot that has the name, 14,
