@@ -12,8 +12,8 @@
  *   4 malformed slot          slot           9 block used without a file     block
  *   5 name twice              higher slot   10 no such file, or empty slot   place 0
  *                                           11 name or type not legal        place 0
- *                                           12 name already used             its slot
- *                                           13 content empty                 place 0
+ *                                           12 name in use                   its slot
+ *                                           13 no content                    place 0
  *                                           14 all slots used                place 0
  *                                           15 more blocks than are free     place 0
  *                                           16 content over 16,777,215 bytes place 0

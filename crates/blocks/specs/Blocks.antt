@@ -13,7 +13,7 @@ use Rattle.laws.specs.Reader.{bytes, tab, tab-is, tab-cong, splice-off}
 use Rattle.laws.specs.Member.{In, Distinct}
 use Rattle.layout.specs.Layouts.{blockOffset}
 
--- How many blocks a content of this length occupies (document 01, "The disk").
+-- How many blocks hold a content of this length (document 01, "The disk").
 abbrev pub blocksFor : ℕ → ℕ
 blocksFor length = (length + 1023) / 1024
 

@@ -66,7 +66,7 @@ pub fn put_slot(
     write_entry(image, at, area, letter, content.len(), start);
 }
 
-// Removes a used slot's file: the slot to zeros but for its identity, its chain's blocks free.
+// Removes a used slot's file: zeros for all of the slot but its identity, its chain's blocks free.
 pub fn remove_slot(image: &mut [u8], layout: layout::Layout, slot: usize)
     requires { ⌜ LayoutRight layout × (length (now image) ≡ imageLength layout) × (slot < layout .slots) × (1 ≤ viewOf layout (bytes (now image)) .entry slot .size) × Chained layout (mapAt (bytes (now image))) (linksFor (viewOf layout (bytes (now image)) .entry slot .size)) (viewOf layout (bytes (now image)) .entry slot .start) ⌝ }
     ensures { λ _. ⌜ now (image .exit) ≡ removeImage layout (now (image .entry)) slot ⌝ }

@@ -1,5 +1,5 @@
 -- The tables of the headers (source document 001, sections 3, 5 and 6), one row a line, offsets from 0: every row with a stated range, value or list of
--- named values. Tune cents, vel zones used, pitch law, internal and unused bytes are carried (document 01, "The files"). Assumes nothing.
+-- named values. Tune cents, the pitch law, vel zones used, and what is internal or unused may be any bytes (document 01, "The files"). Assumes nothing.
 use mathlib.Core.Path.{_≡_, refl, ap, _∙_}
 use mathlib.Core.List.{List, [], _∷_, _++_}
 use Prim.Native.Nat.{ℕ, _-_, _≤_}

@@ -24,7 +24,7 @@ mapAt b block = number 2 b (mapOffset block)
 abbrev pub Fits : Layout → List ℕ → Type 0
 Fits l img = mapOffset (l .blocks) ≤ length img
 
--- A data block: one from the first data block to the last block. As a map value it is a link.
+-- A data block: a block of the disk, and none below its first data block. As a map value it is a link.
 abbrev pub Data : Layout → ℕ → Type 0
 Data l block = (l .first ≤ block) × (block < l .blocks)
 

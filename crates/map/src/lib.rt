@@ -9,7 +9,7 @@ ghost use Rattle.layout.specs.Right.{LayoutRight};
 ghost use Rattle.layout.specs.Layouts.{mapOffset};
 ghost use Rattle.map.specs.Map.{mapAt, Fits, isLink, chain, Chained, Nth, walk, freeBlocks, Collected, setMap, firstOr, linkBlocks, freeAll, touched, marked};
 
-// How the walk of a chain ends: faultless, at what is neither a link nor the end mark (refusal 6), or at the wrong length (7).
+// How the walk of a chain ends: faultless, at what is no link and no end mark (refusal 6), or at the wrong length (7).
 pub enum Walk {
     Whole,
     Bad,
@@ -113,7 +113,7 @@ pub fn chain_blocks(image: &[u8], layout: layout::Layout, links: usize, start: u
     Blocks { list, count }
 }
 
-// The lowest free blocks in rising order, as many as wanted or as there are.
+// As many free blocks as wanted, or all there are: the lowest, in rising order.
 pub fn free_blocks(image: &[u8], layout: layout::Layout, wanted: usize) -> Blocks
     requires { ⌜ Fits layout (now image) × LayoutRight layout ⌝ }
     ensures { λ r. ⌜ Collected (take wanted (freeBlocks layout (mapAt (bytes (now (image .entry)))))) r ⌝ }

@@ -1,4 +1,4 @@
--- AKAII (document 01, "The disk"): digits 0 to 9 are 0 to 9, space 10, A to Z 11 to 36, # 37, + 38, - 39, . 40; any other byte has no image.
+-- AKAII (document 01, "The disk"): 0 to 9 for the digits, 10 for space, 11 to 36 for A to Z, 37 to 40 for # + - . in this order; no other byte has an image.
 -- There and back is the same byte: the checker computes a test over every byte that can have an image. Assumes nothing.
 use mathlib.Core.Path.{_≡_, refl, sym, ap}
 use mathlib.Core.Bool.{Bool, true, false, true≢false}

@@ -1,4 +1,4 @@
--- A download paged across other calls joins to the file's beginning, and to the whole file exactly when its last page says the end (demand 3).
+-- A download (demand 3): pages with calls between that spare their file join to a beginning of it, and that is all of it ↔ the last page says the end.
 -- Each page starts where the joined bytes end, so it adds the next bytes of the content. Assumes nothing.
 use mathlib.Core.Path.{_≡_, refl, sym, ap, ap₂, _∙_}
 use mathlib.Core.Bool.{Bool, true, false}

@@ -32,7 +32,7 @@ pub record Shape : Type 0 where
 abbrev pub shapeOf : Kind → Density → Shape
 shapeOf k d = record { kind = k; density = d; layout = layoutOf k d }
 
--- The record: for each slot nothing, or a name in ASCII, a type and a content.
+-- The record: what each slot holds, a file or nothing.
 abbrev pub Files : Type 0
 Files = ℕ → Option File
 
@@ -156,7 +156,7 @@ abbrev pub listing : {S : Type 0} → S → Option File → Outcome S
 listing state none = answered state (refused 10 0)
 listing state (some f) = answered state (entry (f .name) (f .type) (length (f .content)))
 
--- a page: the smaller of the output's length and what is left; the end is reached exactly if offset plus count is the length
+-- a page: as many bytes as the output holds and the content has left; the end is reached ↔ none is left after them
 abbrev pub pageOf : {S : Type 0} → S → List ℕ → ℕ → List ℕ → Outcome S
 pageOf state content offset out =
     let n = min (length out) (length content - offset) in

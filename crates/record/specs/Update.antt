@@ -74,7 +74,7 @@ files-replaced l v w s f h a b t = go (ℕ-discrete t s) (decLt t (l .slots))
 module _ (l : Layout) (right : LayoutRight l) (img : List ℕ) (rules : DiskRules l img) where
   -- ---- counts
 
-  -- free blocks counted in the map, and every file's length rounded up to blocks, make the data area (demand 3)
+  -- the map's free blocks and the blocks that the files need are together the data area (demand 3)
   pub area-split : freeCount l (mapAt (bytes img)) + total (λ s. takes (filesIn l img s)) 0 (l .slots) ≡ l .blocks - l .first
   area-split = free-blocks l right (viewOf l (bytes img)) (rules .valid) (λ b d. length-tab (bytes img) (blockOffset b) 1024)
 

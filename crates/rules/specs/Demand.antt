@@ -173,8 +173,8 @@ module _ (k : Kind) (d : Density) (f n : ℕ) (img : List ℕ) (yes : checkOf im
   put-answer (Refuse number place) e = ap (λ (x : Outcome (List ℕ)). x .answer) (call-is k d img (put name type content) (accepted-rules k d f n img yes)) ∙ rw e refl
   put-answer (Grant s) e = ap (λ (x : Outcome (List ℕ)). x .answer) (call-is k d img (put name type content) (accepted-rules k d f n img yes)) ∙ rw e refl
 
-  -- A put with a legal type, a legal new name, some content and an empty slot is refused for room exactly if it needs more blocks
-  -- than are free.
+  -- Where type and name are legal, the name is new, content is given and a slot is empty: a put is refused for room ↔ its blocks outnumber
+  -- the free ones.
   pub room : legalType l type ≡ true → legalName l name ≡ true → ((t : ℕ) (file : File) → files t ≡ some file → name ≡ file .name → ⊥) → (length content ≡ 0 → ⊥)
       → (s : ℕ) → s < l .slots → files s ≡ none → (callOf img (put name type content) .answer ≡ refused 15 0) ↔ (n < blocksFor (length content))
   room type-legal name-legal new some-content s inside empty =
@@ -205,8 +205,8 @@ same-got k d slot (other c ∷ is) img files g r e =
     same-got k d slot is (callOf img c .state) (stepFiles shape files c .state) g (rules-after k d img c r)
     (fun-ext (files-after k d img c r) ∙ ap (λ (x : Files). stepFiles shape x c .state) e)
 
--- One page or more of one slot, the first at offset 0 and each at the sum of the counts before, any calls between that don't remove that
--- file: joined they are the file's beginning, and the whole file exactly when the last page says the end.
+-- Pages of one slot, at least one: the first from offset 0, each later one from where those before it ended, and between them any calls but a
+-- removal of that file. Joined they are a beginning of the file, and all of it ↔ the last one says the end.
 pub download : (k : Kind) (d : Density) (f n : ℕ) (img : List ℕ) → checkOf img ≡ Accepted k d f n → (slot : ℕ) (file : File)
     → slot < layoutOf k d .slots → filesIn (layoutOf k d) img slot ≡ some file → (out : List ℕ) (is : List Item) → Spared (file .name) is
     → Joins (file .content) (got callOf slot img nothing (mine out ∷ is))

@@ -1,6 +1,6 @@
 // The check's answer; what it means is in specs/.
 
-// An accepted image's kind, density, number of files and number of free blocks, or a refusal's number and place
+// An accepted image's kind and density, and its counts of files and free blocks; or a refusal's number and place
 // (document 01, "The numbers given back").
 pub enum Checked {
     Accepted {

@@ -111,7 +111,7 @@ pub record Ended : Type 0 where
 abbrev pub afterRun : ℕ → List ℕ → List ℕ → Ended
 afterRun made out img = record { made = made; output = out; state = img }
 
--- The entries from the k-th on, at most n: it ends before the first that is no call. Each call gets the image as the last one left it.
+-- The entries from the k-th on, at most n: it ends before the first that is no call. Each call gets the image that the one before left.
 unfoldable pub runFrom : List ℕ → List ℕ → ℕ → ℕ → List ℕ → List ℕ → Ended
 unfolding part splice entryCall callOf replyBytes
 runFrom script pool zero k img out = afterRun k out img

@@ -346,8 +346,8 @@ pub extern "C" fn sj_blocks(image: &[u8], slot: usize, out: &mut [u16]) -> CCoun
     located_result(locate::file_blocks(image, slot, out))
 }
 
-// Puts a file into the lowest empty slot and the lowest free blocks: refusals 1 to 9, then 11, 13, 12 at the slot that has the name, 14,
-// 15, 16. Name and content are lent and kept; so is the image on a refusal.
+// Puts a file: its slot is the lowest empty one, its blocks the lowest free ones. Refusals 1 to 9, then 11, 13, 12 at the slot that has the
+// name, 14, 15, 16. Name and content are lent and kept; so is the image on a refusal.
 #[no_mangle]
 pub extern "C" fn sj_put(image: &mut [u8], name: &[u8], letter: u8, content: &[u8]) -> CFound
     ensures answer { λ r. ⌜ r ≡ foundResult (callOf (now (image .entry)) (putCall (now (name .entry)) letter (now (content .entry))) .answer) ⌝ }

@@ -33,7 +33,7 @@ pub record File : Type 0 where
   pub type : ℕ
   pub content : List ℕ
 
--- A slot is empty if its type byte is 0.
+-- Type 0 marks an empty slot.
 unfoldable pub used : Entry → Bool
 used e = not (eqb (e .type) 0)
 

@@ -58,12 +58,12 @@ module _ (l : Layout) (v : View) where
   unfolding used walkOf
   broken s = both (used (v .entry s)) (not (isWhole (walkOf s)))
 
-  -- 8: its chain shares a block with a lower slot's
+  -- 8: a block of its chain is a lower slot's too
   unfoldable pub sharing : ℕ → Bool
   unfolding meets owned chainOf
   sharing s = meets (owned v s) (chainOf v s)
 
-  -- 9: a data block with a nonzero map value is on no chain
+  -- 9: a data block's map value isn't 0, and no chain has the block
   unfoldable pub stray : ℕ → Bool
   unfolding has owned
   stray b = both (not (eqb (v .map b) 0)) (not (has (owned v (l .slots)) b))

@@ -1,5 +1,5 @@
--- `chains::chain_fault` meets its contract: the rest of a chain's walk answers as the whole, and the slots left answer as all; the marks are those
--- of the chains below a slot. Each way out of a loop and each turn is one law of a walk's steps, of marks or of a search. Assumes nothing.
+-- `chains::chain_fault` meets its contract: the rest of a chain's walk answers as the whole, and the slots left answer as all; marked are
+-- the blocks of lower slots' chains. Each way out of a loop and each turn is one law of a walk's steps, of marks or of a search. Assumes nothing.
 use mathlib.Core.Path.{_≡_, refl, sym, ap, _∙_}
 use mathlib.Core.Bool.{Bool, true, false, not}
 use mathlib.Core.List.{List}

@@ -1,4 +1,4 @@
--- `chains::share_fault` meets its contract: the marks are those of the chains below a slot, so a marked block is a shared one.
+-- `chains::share_fault` meets its contract: marked are the blocks of lower slots' chains, so a slot that comes upon one shares it.
 -- No chain is broken, so each is a faultless one to walk; the slots left answer as all. Assumes nothing.
 use mathlib.Core.Path.{_≡_, sym, ap, _∙_}
 use mathlib.Core.Bool.{Bool, true, false}
