@@ -74,22 +74,37 @@ fn print_front(out: &[u8]) {
     }
 }
 
+fn print_count(count: usize, end: bool) {
+    listing::print_number(b"count ", count);
+    if end {
+        io::write_all(STDOUT_FILENO, b" end");
+    } else {
+        io::write_all(STDOUT_FILENO, b" more");
+    }
+}
+
+fn print_refusal(number: usize, place: usize) {
+    listing::print_number(b"refused ", number);
+    listing::print_number(b" at ", place);
+}
+
+fn print_unchecked(checked: rules::Checked) {
+    let rules::Checked::Refused { number, place } = checked else {
+        return;
+    };
+    print_refusal(number, place);
+}
+
+// The line of a page: the answer, then the output, which a refusal must have kept.
 fn print_paged(paged: calls::Paged, out: &[u8]) {
     match paged {
-        calls::Paged::Page { count, end } => {
-            listing::print_number(b"count ", count);
-            if end {
-                io::write_all(STDOUT_FILENO, b" end");
-            } else {
-                io::write_all(STDOUT_FILENO, b" more");
-            }
-            print_front(out);
-            listing::print_number(b" sum ", sum_of(out));
-            listing::print_line_end();
-        }
-        calls::Paged::Refusal { number, place } => listing::print_refused(number, place),
-        calls::Paged::Unchecked(checked) => listing::print_checked(checked),
+        calls::Paged::Page { count, end } => print_count(count, end),
+        calls::Paged::Refusal { number, place } => print_refusal(number, place),
+        calls::Paged::Unchecked(checked) => print_unchecked(checked),
     }
+    print_front(out);
+    listing::print_number(b" sum ", sum_of(out));
+    listing::print_line_end();
 }
 
 // Pages into all of the output, and prints the answer.

@@ -12,7 +12,8 @@
 //   data BLOCK COUNT FIRST               stores FIRST, FIRST + 1, .. from a block on, modulo 251
 //   check, list SLOT, find [NAME]        print the answer
 //   page SLOT OFFSET SIZE                prints it, the output's first four bytes and a sum over all of its SIZE bytes,
-//                                        which held 238 before: those past the count are seen to be kept
+//                                        which held 238 before: those past the count are seen to be kept,
+//                                        and all of them on a refusal
 mod answers;
 mod build;
 mod line;
