@@ -93,6 +93,14 @@ sj_found sj_find(const uint8_t *image, size_t image_len, const uint8_t *name, si
  * the count is 0 and the end is reached. The image is lent and kept. */
 sj_paged sj_page(const uint8_t *image, size_t image_len, size_t slot, size_t offset, uint8_t *out, size_t out_len);
 
+/* The numbers of the blocks that hold a slot's file, in the file's order, to the output's front; gives how many they are, at most 1,595. Refusals
+ * 1 to 9, then 10, then 21 where the output has no room for all of them. The output's other numbers are kept, and all of them on a refusal. The
+ * image is lent and kept.
+ *
+ * Like sj_check, sj_list and sj_find it reads the length and the first 5,120 bytes alone. Who keeps images elsewhere can lend zeros for the rest; for
+ * pages of a file fetch its blocks too, 1,024 bytes each at 1,024 times its number, and no others. Every answer is that on the whole image. */
+sj_counted sj_blocks(const uint8_t *image, size_t image_len, size_t slot, uint16_t *blocks, size_t blocks_len);
+
 /* Puts a file: the lowest empty slot, the lowest free blocks in rising order, zeros after the content in its last block. The name is as for
  * sj_find, the type A to Z (S900) or a to z (S1000). Refusals 1 to 9, then 11, 13, 12, 14, 15, 16. Name and content are lent and kept;
  * so is the image on a refusal. On 16: 15 is asked first, so it is never given. */
