@@ -5,4 +5,5 @@ pub mod Listing
 pub mod Finding
 pub mod Paging
 pub mod Putting
+pub mod Made
 pub mod Sequence

@@ -1,5 +1,5 @@
 -- Demand 3 about the code: calls made one after another, each keeping its contract, behave as the plain record, after each call.
--- Every public function promises `Made`, call by call below, and `sequence` (rules) speaks of what `callOf` says. Assumes nothing.
+-- Every public function promises `Made` (specs/Made.antt), and `sequence` (rules) speaks of what `callOf` says. Assumes nothing.
 use mathlib.Core.Path.{_≡_, ap, _∙_}
 use mathlib.Core.List.{List, [], _∷_}
 use Prim.Native.Nat.{ℕ}
@@ -7,41 +7,12 @@ use Rattle.layout.specs.declared.Kind.{Kind}
 use Rattle.layout.specs.declared.Density.{Density}
 use Rattle.layout.specs.Layouts.{layoutOf}
 use Rattle.image.specs.Image.{filesIn}
-use Rattle.record.specs.Record.{shapeOf, Files, Call, list, find, page, put, remove, Answer, Outcome, stepFiles}
+use Rattle.record.specs.Record.{shapeOf, Files, Call, Answer, Outcome, stepFiles}
 use Rattle.rules.specs.declared.Checked.the-variants.{Accepted}
 use Rattle.rules.specs.Check.{checkOf, callOf}
 use Rattle.rules.specs.Accepted.{acceptedAs}
 use Rattle.rules.specs.Demand.{Served, sequence}
-use Rattle.calls.specs.declared.Found.{Found}
-use Rattle.calls.specs.declared.Paged.{Paged}
-use Rattle.calls.specs.declared.Listed.{Listed}
-use Rattle.calls.specs.declared.Removed.{Removed}
-use Rattle.calls.specs.Answers.{came, foundOf, pagedOf, listedOf, removedOf, Lists}
-
--- ---- what the public functions promise, call by call
-
--- A call was made: answer, output and image afterwards are those of `callOf`.
-abbrev pub Made : List ℕ → Call → Answer → List ℕ → List ℕ → Type 0
-Made img c answer output after = came answer output after ≡ callOf img c
-
--- These are the contracts of src/lib.rt, word for word; `list` promises its 12 name bytes besides.
-abbrev pub ListMade : List ℕ → ℕ → Listed → Type 0
-ListMade img slot r = Lists img (callOf img (list slot)) r
-
-pub list-made : (img : List ℕ) (slot : ℕ) (r : Listed) → ListMade img slot r → Made img (list slot) (listedOf r) [] img
-list-made img slot r p = p .answer
-
-abbrev pub FindMade : List ℕ → List ℕ → Found → Type 0
-FindMade img name r = Made img (find name) (foundOf r) [] img
-
-abbrev pub PageMade : List ℕ → ℕ → ℕ → List ℕ → Paged → List ℕ → Type 0
-PageMade img slot offset out r after = Made img (page slot offset out) (pagedOf r) after img
-
-abbrev pub PutMade : List ℕ → List ℕ → ℕ → List ℕ → Found → List ℕ → Type 0
-PutMade img name letter content r after = Made img (put name letter content) (foundOf r) [] after
-
-abbrev pub RemoveMade : List ℕ → List ℕ → Removed → List ℕ → Type 0
-RemoveMade img name r after = Made img (remove name) (removedOf r) [] after
+use Rattle.calls.specs.Made.{Made}
 
 -- ---- a sequence of them
 
@@ -52,7 +23,7 @@ pub record Turn : Type 0 where
   pub output : List ℕ
   pub after : List ℕ
 
--- Each call gets the image as the last one left it.
+-- Each call is made on the image that the one before it left.
 abbrev pub Ran : List ℕ → List Turn → Type 0
 Ran img [] = Unit {0}
 Ran img (t ∷ ts) = Made img (t .call) (t .answer) (t .output) (t .after) × Ran (t .after) ts
@@ -88,7 +59,7 @@ behaves k d (t ∷ ts) img held r s =
       behaves k d ts (t .after) (stepFiles (shapeOf k d) held (t .call) .state) (r .1) (rw state (s .1)),
     )
 
--- Take any accepted image and any sequence of calls on it, refused ones included: after each the image is accepted and all is the record's,
--- which begins as the files on the image and is fed the calls' arguments alone.
+-- Whatever calls are made on an accepted image, refused ones too: after each of them the image is accepted and all is the record's, which begins as
+-- the files on the image and is fed the calls' arguments alone.
 pub demand-3 : (k : Kind) (d : Density) (f n : ℕ) (img : List ℕ) → checkOf img ≡ Accepted k d f n → (ts : List Turn) → Ran img ts → Behaves k d (filesIn (layoutOf k d) img) ts
 demand-3 k d f n img e ts r = behaves k d ts img (filesIn (layoutOf k d) img) r (sequence k d f n img e (calls ts))

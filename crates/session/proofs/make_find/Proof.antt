@@ -11,6 +11,7 @@ use Rattle.rules.specs.Check.{callOf}
 use Rattle.session.specs.Script.{replyOf}
 use Rattle.session.specs.Entries.{shown-as}
 use Rattle.calls.specs.Answers.{findCall}
+use Rattle.calls.specs.Made.{FindMade}
 use Rattle.session.proofs.make_find.Statement.{statement}
 use Rattle.session.proofs.make_find.Tie as tie
 
@@ -29,7 +30,7 @@ same-length c = search needs
 returns : tie.Need-returns
 returns c =
     let a = c .before .before .before .before .before .before .before .before .before .args in
-    let e = c .before .before .before .before .before .find .ensures in
+    let e : FindMade (now (a .image)) (now (a .name)) (c .before .before .before .before .before .find .result) = c .before .before .before .before .before .find .ensures in
     let o = callOf (now (a .image)) (findCall (now (a .name))) in (
       shown-as (now (a .shown)) o (c .before .before .before .found-reply .ensures ∙ ap (λ (o : Outcome (List ℕ)). replyOf (o .answer)) e)
           (splice-none (now (a .shown)) 20 ∙ ap (λ (o : Outcome (List ℕ)). splice (now (a .shown)) 20 (o .output)) e) (c .before .before .write-reply .ensures),

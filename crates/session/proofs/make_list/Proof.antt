@@ -10,6 +10,7 @@ use Rattle.laws.specs.Splice.{splice, splice-none}
 use Rattle.rules.specs.Check.{callOf}
 use Rattle.session.specs.Entries.{shown-as, list-reply}
 use Rattle.calls.specs.Answers.{listCall}
+use Rattle.calls.specs.Made.{ListMade}
 use Rattle.session.proofs.make_list.Statement.{statement}
 use Rattle.session.proofs.make_list.Tie as tie
 
@@ -28,7 +29,7 @@ same-length c = search needs
 returns : tie.Need-returns
 returns c =
     let a = c .before .before .before .before .before .before .before .before .args in
-    let e = c .before .before .before .before .before .list .ensures in
+    let e : ListMade (now (a .image)) (a .slot) (c .before .before .before .before .before .list .result) = c .before .before .before .before .before .list .ensures in
     let o = callOf (now (a .image)) (listCall (a .slot)) in (
       shown-as (now (a .shown)) o (c .before .before .before .listed-reply .ensures ∙ list-reply (now (a .image)) o (c .before .before .before .before .before .list .result) e)
           (splice-none (now (a .shown)) 20 ∙ ap (λ (o : Outcome (List ℕ)). splice (now (a .shown)) 20 (o .output)) (e .answer)) (c .before .before .write-reply .ensures),

@@ -12,6 +12,7 @@ use Rattle.rules.specs.Check.{callOf}
 use Rattle.session.specs.Script.{replyOf}
 use Rattle.session.specs.Entries.{shown-as}
 use Rattle.calls.specs.Answers.{pageCall}
+use Rattle.calls.specs.Made.{PageMade}
 use Rattle.session.proofs.make_page.Statement.{statement}
 use Rattle.session.proofs.make_page.Tie as tie
 
@@ -41,7 +42,7 @@ unfolding part
 returns c =
     let a = c .before .before .before .before .before .before .before .before .before .before .before .args in
     let s : List ℕ = now (a .shown) in
-    let e = c .before .before .before .before .before .before .before .page .ensures in
+    let e : PageMade (now (a .image)) (a .slot) (a .offset) _ (c .before .before .before .before .before .before .before .page .result) _ = c .before .before .before .before .before .before .before .page .ensures in
     let o = callOf (now (a .image)) (pageCall (a .slot) (a .offset) (part s 20 1024)) in (
       shown-as s o (c .before .before .before .paged-reply .ensures ∙ ap (λ (o : Outcome (List ℕ)). replyOf (o .answer)) e)
           (lent-back s 20 1044 (c .before .before .before .before .before .before .before .page .last .1 .1 .1 .0) (omega arith) (omega arith) (omega (arith, length-lent s 20 1044 (omega arith))) refl ∙ ap (λ (o : Outcome (List ℕ)). splice s 20 (o .output)) e) (c .before .before .write-reply .ensures),
