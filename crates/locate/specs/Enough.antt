@@ -4,7 +4,7 @@ use mathlib.Core.Path.{_≡_, refl, sym, ap, _∙_}
 use mathlib.Core.Bool.{Bool, true, false, not}
 use mathlib.Core.List.{List, [], _∷_}
 use mathlib.Core.Option.{Option, none, some}
-use Prim.Native.Nat.{ℕ, _<_}
+use Prim.Native.Nat.{ℕ, _-_, _≤_, _<_}
 use native.Mathlib.Decide.{decLt}
 use native.Mathlib.Omega.{arith}
 use lib.Dec.{ltb}
@@ -23,7 +23,7 @@ use Rattle.layout.specs.Right.{LayoutRight, layout-right}
 use Rattle.blocks.specs.Blocks.{linksFor, blockAt, read-cong}
 use Rattle.names.specs.Names.{legalName}
 use Rattle.map.specs.Map.{mapAt}
-use Rattle.map.specs.Chains.{chain-cong, chain-data}
+use Rattle.map.specs.Chains.{length-chain, chain-cong, chain-data, chain-short}
 use Rattle.view.specs.Disk.{File, used, entryChain, chainOf, contentOf, filesOf}
 use Rattle.image.specs.Image.{viewOf, filesIn, DiskRules}
 use Rattle.record.specs.Record.{Call, list, find, page, Outcome, named, refuseIf, orRefuse, slotOf, fileAt, judgeName, listing, paging}
@@ -230,3 +230,23 @@ module _ (x y : List ℕ) (same : SameHead x y) where
             answer = ap (λ (o : Outcome (List ℕ)). o .answer) (sym b) ∙ rw file (p .0) ∙ ap (λ (o : Outcome (List ℕ)). o .answer) a;
             output = ap (λ (o : Outcome (List ℕ)). o .output) (sym b) ∙ rw file (p .1) ∙ ap (λ (o : Outcome (List ℕ)). o .output) a;
           }
+
+-- ---- how much room a file's blocks need
+
+blocks-few : (k : Kind) (d : Density) (f n : ℕ) (img : List ℕ) → checkOf img ≡ Accepted k d f n → (s : ℕ) → Dec (s < layoutOf k d .slots)
+    → (u : Bool) → used (viewOf (layoutOf k d) (bytes img) .entry s) ≡ u → length (fileBlocks (layoutOf k d) img s) ≤ layoutOf k d .blocks - layoutOf k d .first
+unfolding fileBlocks chainOf entryChain
+blocks-few k d f n img e s (no h) u t = rw (le-ltb s (layoutOf k d .slots) (omega arith)) (omega arith)
+blocks-few k d f n img e s (yes h) false t = rw (lt-ltb s (layoutOf k d .slots) h, t) (omega arith)
+blocks-few k d f n img e s (yes h) true t =
+    let l = layoutOf k d in
+    let m = mapAt (bytes img) in
+    let w = viewOf l (bytes img) .entry s in
+    let c = accepted-rules k d f n img e .valid .linked s (h, t) in
+    rw (lt-ltb s (l .slots) h, t, length-chain m (linksFor (w .size)) (w .start))
+    (omega (arith, chain-short l (layout-right k d) m (linksFor (w .size)) (w .start) c))
+
+-- A file has at most as many blocks as the data area: with that much room a call for them is never refused by 21.
+pub blocks-most : (k : Kind) (d : Density) (f n : ℕ) (img : List ℕ) → checkOf img ≡ Accepted k d f n → (s : ℕ)
+    → length (fileBlocks (layoutOf k d) img s) ≤ layoutOf k d .blocks - layoutOf k d .first
+blocks-most k d f n img e s = blocks-few k d f n img e s (decLt s (layoutOf k d .slots)) (used (viewOf (layoutOf k d) (bytes img) .entry s)) refl
