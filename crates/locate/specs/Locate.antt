@@ -61,15 +61,17 @@ unfoldable pub fileBlocks : Layout → List ℕ → ℕ → List ℕ
 unfolding chainOf
 fileBlocks l img s = pick (ltb s (l .slots)) (chainOf (viewOf l (bytes img)) s) []
 
--- Blocks to the output's front; output past them is kept.
+-- By the blocks there are: 10 for none, 21 for an output without room for all, else they stand at its front and what lies past them is kept.
 abbrev pub storing : List ℕ → List ℕ → Outcome
 storing [] out = located (refusedBy 10 0) out
 storing (b ∷ bs) out = pick (ltb (length out) (length (b ∷ bs))) (located (refusedBy 21 0) out) (located (counted (length (b ∷ bs))) (splice out 0 (b ∷ bs)))
 
+-- By the check's answer: its refusal, or the slot's blocks.
 abbrev pub blocksBy : Checked → List ℕ → ℕ → List ℕ → Outcome
 blocksBy (Refused number place) img s out = located (refusedBy number place) out
 blocksBy (Accepted k d files free) img s out = storing (fileBlocks (layoutOf k d) img s) out
 
+-- The call on any bytes.
 unfoldable pub blocksOf : List ℕ → ℕ → List ℕ → Outcome
 unfolding fileBlocks splice
 blocksOf img s out = blocksBy (checkOf img) img s out
