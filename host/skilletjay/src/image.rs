@@ -8,6 +8,8 @@ use std::fmt;
 pub const BLOCK: usize = 1024;
 /// Slots of a directory.
 pub const SLOTS: usize = 64;
+/// Directory and map lie in so many bytes of any image: all that is read but for a file's content.
+pub const HEAD: usize = 5 * BLOCK;
 
 /// Whose disk it is.
 #[derive(Clone, Copy, Debug, PartialEq, Eq, Hash)]
@@ -175,6 +177,34 @@ impl<B: AsRef<[u8]>> Image<B> {
         Refusal::or(told.refusal, told.place, Paged { count: told.count, end: told.end != 0 })
     }
 
+    /// The blocks that hold a file, in the file's order: 10.
+    ///
+    /// For images that are kept elsewhere and dear to fetch. Of such an image lend its length, its first [`HEAD`]
+    /// bytes and zeros for the rest: check, list, find and this call answer as on the whole image. With the blocks
+    /// that this call gives fetched too, [`BLOCK`] bytes each at [`BLOCK`] times its number, so do the file's pages.
+    ///
+    /// ```
+    /// # use skilletjay::{BLOCK, HEAD, Image};
+    /// # let mut image = Image::new(vec![0; 819_200]);
+    /// # let slot = image.put("LONG      ", b'S', &[7; 5000])?;
+    /// # let elsewhere = image.into_bytes();
+    /// let mut bytes = vec![0; elsewhere.len()];
+    /// bytes[..HEAD].copy_from_slice(&elsewhere[..HEAD]);
+    /// for block in Image::new(&bytes).blocks(slot)? {
+    ///     let at = BLOCK * usize::from(block);
+    ///     bytes[at..at + BLOCK].copy_from_slice(&elsewhere[at..at + BLOCK]);
+    /// }
+    /// assert_eq!(Image::new(&bytes).read(slot)?, [7; 5000]);
+    /// # Ok::<(), skilletjay::Refusal>(())
+    /// ```
+    pub fn blocks(&self, slot: Slot) -> Result<Vec<u16>, Refusal> {
+        // No file has more blocks than the image (`blocks-most` in locate/specs/Enough.antt), so this is never refused by 21.
+        let mut blocks = vec![0; self.bytes().len() / BLOCK];
+        let told = lend::blocks(self.bytes(), slot.0, &mut blocks);
+        blocks.truncate(told.count);
+        Refusal::or(told.refusal, told.place, blocks)
+    }
+
     /// A file's pages from its beginning to its end.
     pub fn download(&self, slot: Slot) -> Download<'_> {
         Download::new(self.bytes(), slot)
@@ -243,6 +273,23 @@ mod tests {
         let mut image = Image::new(vec![0; 819_200]);
         image.put("A         ", b'S', b"x").expect("room");
         assert_eq!(image.find(&image.bytes()[..10]), Ok(Slot(0)));
+    }
+
+    #[test]
+    fn blocks_are_those_of_the_chain() {
+        let mut image = Image::new(vec![0; 819_200]);
+        for (name, length) in [("A         ", 2048), ("B         ", 1), ("C         ", 1024)] {
+            image.put(name, b'S', &vec![1; length]).expect("room");
+        }
+        image.remove("B         ").expect("there");
+        let slot = image.put("D         ", b'S', &[2; 1025]).expect("room");
+        assert_eq!(image.blocks(slot), Ok(vec![6, 8])); // over the gap that B left
+        assert_eq!(image.blocks(Slot(0)), Ok(vec![4, 5]));
+        assert_eq!(number(image.blocks(Slot(3))), Some(10));
+        assert_eq!(number(image.blocks(Slot(usize::MAX))), Some(10));
+        let whole = image.put("WHOLE     ", b'S', &vec![3; 791 * BLOCK]).expect("room");
+        assert_eq!(image.blocks(whole), Ok((9..800).collect()));
+        assert_eq!(number(Image::new([0; 3]).blocks(Slot(0))), Some(1));
     }
 
     #[test]

@@ -3,7 +3,7 @@
 //! Each function lends its slices for the time of the call. A mutable slice can't overlap another in Rust; two
 //! shared ones could, so names and scripts are copied before they are lent.
 
-use crate::raw::{self, Checked, Done, Found, Listed, Paged};
+use crate::raw::{self, Checked, Counted, Done, Found, Listed, Paged};
 use std::ptr;
 
 pub use crate::lend_files::*;
@@ -40,6 +40,12 @@ pub fn find(image: &[u8], name: &[u8]) -> Found {
 pub fn page(image: &[u8], slot: usize, offset: usize, output: &mut [u8]) -> Paged {
     // SAFETY: the image is readable and the output writable for its length; a mutable slice lies apart.
     unsafe { raw::sj_page(lent(image), image.len(), slot, offset, lent_mut(output), output.len()) }
+}
+
+/// `sj_blocks`.
+pub fn blocks(image: &[u8], slot: usize, output: &mut [u16]) -> Counted {
+    // SAFETY: the image is readable and the output writable for its number; a mutable slice lies apart.
+    unsafe { raw::sj_blocks(lent(image), image.len(), slot, lent_mut(output), output.len()) }
 }
 
 /// `sj_put`.

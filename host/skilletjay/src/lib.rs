@@ -20,8 +20,8 @@
 //! # Ok::<(), skilletjay::Refusal>(())
 //! ```
 //!
-//! A large file is best taken page by page, with [`Image::download`]. Sample and program files have their own
-//! modules, [`sample`] and [`program`].
+//! A large file is best taken page by page, with [`Image::download`]; an image that is dear to fetch needn't be
+//! fetched whole, see [`Image::blocks`]. Sample and program files have their own modules, [`sample`] and [`program`].
 
 mod download;
 mod image;
@@ -33,5 +33,5 @@ mod refusal;
 pub mod sample;
 
 pub use download::Download;
-pub use image::{BLOCK, Checked, Density, Entry, Image, Kind, Paged, SLOTS, Slot};
+pub use image::{BLOCK, Checked, Density, Entry, HEAD, Image, Kind, Paged, SLOTS, Slot};
 pub use refusal::{Place, Refusal};

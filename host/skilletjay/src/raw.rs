@@ -70,6 +70,13 @@ unsafe extern "C" {
         out: *mut u8,
         out_len: usize,
     ) -> Paged;
+    pub fn sj_blocks(
+        image: *const u8,
+        image_len: usize,
+        slot: usize,
+        blocks: *mut u16,
+        blocks_len: usize,
+    ) -> Counted;
     pub fn sj_put(
         image: *mut u8,
         image_len: usize,

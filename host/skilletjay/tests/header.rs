@@ -1,6 +1,7 @@
 //! The raw declarations against `include/skilletjay.h`: sizes, offsets and the functions' types, judged by the C compiler.
 
 use skilletjay::raw::{Checked, Counted, Done, Found, Listed, Paged};
+use std::collections::BTreeSet;
 use std::fmt::Write;
 use std::mem::{offset_of, size_of};
 use std::path::Path;
@@ -23,6 +24,7 @@ sj_checked (*check)(const uint8_t *, size_t) = sj_check;
 sj_listed (*list)(const uint8_t *, size_t, size_t) = sj_list;
 sj_found (*find)(const uint8_t *, size_t, const uint8_t *, size_t) = sj_find;
 sj_paged (*page)(const uint8_t *, size_t, size_t, size_t, uint8_t *, size_t) = sj_page;
+sj_counted (*blocks)(const uint8_t *, size_t, size_t, uint16_t *, size_t) = sj_blocks;
 sj_found (*put)(uint8_t *, size_t, const uint8_t *, size_t, uint8_t, const uint8_t *, size_t) = sj_put;
 sj_done (*take)(uint8_t *, size_t, const uint8_t *, size_t) = sj_remove;
 size_t (*run)(uint8_t *, size_t, const uint8_t *, size_t, const uint8_t *, size_t, uint8_t *, size_t) = sj_run;
@@ -52,4 +54,21 @@ fn declarations_are_the_headers() {
     compiler.args(["-std=c11", "-Wall", "-Werror", "-fsyntax-only", "-I"]).arg(include).arg(&file);
     let output = compiler.output().expect("cc runs");
     assert!(output.status.success(), "{}", String::from_utf8_lossy(&output.stderr));
+}
+
+/// The functions that a text names: `sj_`, letters and digits, and then what must follow.
+fn named(text: &str, follows: &[char]) -> BTreeSet<String> {
+    let name = |rest: &str| {
+        let end = rest.find(|character: char| !character.is_ascii_alphanumeric() && character != '_')?;
+        rest[end..].starts_with(follows).then(|| rest[..end].to_string())
+    };
+    text.split("sj_").skip(1).filter_map(name).collect()
+}
+
+/// A function that is new in the header is declared in Rust, and its type is compared above.
+#[test]
+fn every_function_is_declared_and_compared() {
+    let header = named(include_str!("../../../include/skilletjay.h"), &['(']);
+    assert_eq!(named(include_str!("../src/raw.rs"), &['(']), header);
+    assert_eq!(named(FUNCTIONS, &[';', ',', '}']), header);
 }
