@@ -19,6 +19,7 @@ pub enum Call {
     List { slot: usize },
     Find { name: Vec<u8> },
     Page { slot: usize, offset: usize, output: Vec<u8> },
+    Blocks { slot: usize, output: Vec<u16> },
     Put { name: Vec<u8>, file_type: u8, content: Vec<u8> },
     Remove { name: Vec<u8> },
     Run { script: Vec<u8>, pool: Vec<u8>, output: Vec<u8> },
@@ -65,6 +66,8 @@ pub struct Outcome {
     pub output: Vec<u8>,
     /// The output of words with its margins.
     pub words: Vec<i16>,
+    /// The output of block numbers with its margins.
+    pub blocks: Vec<u16>,
 }
 
 /// The part of an output that is lent.
@@ -75,7 +78,7 @@ fn lent<T>(output: &mut [T]) -> &mut [T] {
 
 /// Makes a call with the library.
 pub fn by_library(call: &Call, image: &mut [u8]) -> Outcome {
-    let (mut out, mut out_words) = (Vec::new(), Vec::new());
+    let (mut out, mut out_words, mut out_blocks) = (Vec::new(), Vec::new(), Vec::new());
     let given = match call {
         Call::Check => Given::Checked(lend::check(image)),
         Call::List { slot } => Given::Listed(lend::list(image, *slot)),
@@ -83,6 +86,10 @@ pub fn by_library(call: &Call, image: &mut [u8]) -> Outcome {
         Call::Page { slot, offset, output } => {
             out.clone_from(output);
             Given::Paged(lend::page(image, *slot, *offset, lent(&mut out)))
+        }
+        Call::Blocks { slot, output } => {
+            out_blocks.clone_from(output);
+            Given::Counted(lend::blocks(image, *slot, lent(&mut out_blocks)))
         }
         Call::Put { name, file_type, content } => Given::Found(lend::put(image, name, *file_type, content)),
         Call::Remove { name } => Given::Done(lend::remove(image, name)),
@@ -102,12 +109,12 @@ pub fn by_library(call: &Call, image: &mut [u8]) -> Outcome {
         }
         Call::Program { file } => Given::Counted(lend::program(file)),
     };
-    Outcome { given, output: out, words: out_words }
+    Outcome { given, output: out, words: out_words, blocks: out_blocks }
 }
 
 /// Makes a call with the model, its answer put as C would see it.
 pub fn by_model(call: &Call, image: &mut [u8]) -> Outcome {
-    let (mut out, mut out_words) = (Vec::new(), Vec::new());
+    let (mut out, mut out_words, mut out_blocks) = (Vec::new(), Vec::new(), Vec::new());
     let given = match call {
         Call::Check => Given::Checked(checked(calls::check(image))),
         Call::List { slot } => Given::Listed(listed(calls::list(image, *slot))),
@@ -115,6 +122,10 @@ pub fn by_model(call: &Call, image: &mut [u8]) -> Outcome {
         Call::Page { slot, offset, output } => {
             out.clone_from(output);
             Given::Paged(paged(calls::page(image, *slot, *offset, lent(&mut out))))
+        }
+        Call::Blocks { slot, output } => {
+            out_blocks.clone_from(output);
+            Given::Counted(counted(calls::blocks(image, *slot, lent(&mut out_blocks))))
         }
         Call::Put { name, file_type, content } => {
             Given::Found(found(calls::put(image, name, *file_type, content)))
@@ -134,7 +145,7 @@ pub fn by_model(call: &Call, image: &mut [u8]) -> Outcome {
         }
         Call::Program { file } => Given::Counted(counted(program::check(file))),
     };
-    Outcome { given, output: out, words: out_words }
+    Outcome { given, output: out, words: out_words, blocks: out_blocks }
 }
 
 fn checked(answer: Answer<calls::Checked>) -> Checked {
@@ -199,6 +210,9 @@ impl fmt::Display for Call {
             Call::Find { name } => write!(to, "find {}", text(name)),
             Call::Page { slot, offset, output } => {
                 write!(to, "page slot {slot} offset {offset} output {}", output.len() - 2 * MARGIN)
+            }
+            Call::Blocks { slot, output } => {
+                write!(to, "blocks slot {slot} output {}", output.len() - 2 * MARGIN)
             }
             Call::Put { name, file_type, content } => {
                 write!(to, "put {} type {file_type} content {}", text(name), content.len())

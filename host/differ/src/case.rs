@@ -144,6 +144,8 @@ impl Case {
             format!("output at {}", told(&library.output, &model.output, at))
         } else if let Some(at) = first_apart(&library.words, &model.words) {
             format!("words at {}", told(&library.words, &model.words, at))
+        } else if let Some(at) = first_apart(&library.blocks, &model.blocks) {
+            format!("blocks at {}", told(&library.blocks, &model.blocks, at))
         } else if let Some(at) = first_apart(&self.library, &self.model) {
             format!("image at {}", told(&self.library, &self.model, at))
         } else {

@@ -16,6 +16,11 @@ pub fn words(length: usize, random: &mut Random) -> Vec<i16> {
     (0..length + 2 * MARGIN).map(|_| random.next_number() as i16).collect()
 }
 
+/// An output of block numbers with its margins.
+pub fn block_numbers(length: usize, random: &mut Random) -> Vec<u16> {
+    (0..length + 2 * MARGIN).map(|_| random.next_number() as u16).collect()
+}
+
 /// A length near one that is due.
 pub fn near(due: usize, random: &mut Random) -> usize {
     match random.below(6) {
@@ -99,6 +104,14 @@ fn page_length(length: usize, random: &mut Random) -> usize {
     }
 }
 
+/// A call for a slot's blocks: no output, one too short, one that fits, or a longer one.
+fn blocks(disk: Option<&Disk>, random: &mut Random) -> Call {
+    let slot = slot(disk, random);
+    let due = disk.and_then(|disk| disk.file(slot)).map_or(2, |file| file.chain.len());
+    let length = if random.one_in(8) { 0 } else { near(due, random) };
+    Call::Blocks { slot, output: block_numbers(length, random) }
+}
+
 /// A length for a content: edges, what just fits, what just doesn't.
 fn content_length(free: usize, random: &mut Random) -> usize {
     match random.below(20) {
@@ -114,7 +127,7 @@ fn content_length(free: usize, random: &mut Random) -> usize {
 
 /// Any call on a disk; `puts` of ten calls that change it put.
 pub fn call(kind: Kind, disk: Option<&Disk>, puts: usize, random: &mut Random) -> Call {
-    match random.below(10) {
+    match random.below(11) {
         0 => Call::Check,
         1 => Call::List { slot: slot(disk, random) },
         2 => Call::Find { name: name(kind, disk, random) },
@@ -128,6 +141,7 @@ pub fn call(kind: Kind, disk: Option<&Disk>, puts: usize, random: &mut Random) -
                 output: output(page_length(length.saturating_sub(offset), random), random),
             }
         }
+        6 => blocks(disk, random),
         _ if random.below(10) < puts => {
             let length = content_length(disk.map_or(3, |disk| disk.free().len()), random);
             let (name, file_type) = (name(kind, disk, random), file_type(kind, random));
@@ -147,6 +161,7 @@ pub fn each(kind: Kind, disk: Option<&Disk>, random: &mut Random) -> Vec<Call> {
         Call::List { slot },
         Call::Find { name: name.clone() },
         Call::Page { slot, offset, output: output(random.below(3000), random) },
+        blocks(disk, random),
         Call::Put { name: name.clone(), file_type: file_type(kind, random), content: random.bytes(content) },
         Call::Remove { name },
     ]

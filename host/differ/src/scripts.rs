@@ -44,7 +44,8 @@ fn entry(call: &Call, pool: &mut Vec<u8>, random: &mut Random) -> Vec<u8> {
         pool.len() - bytes.len()
     };
     let (operation, file_type) = match call {
-        Call::List { slot } => {
+        // a script has no call for blocks
+        Call::List { slot } | Call::Blocks { slot, .. } => {
             set(4, *slot);
             (0, 0)
         }

@@ -77,6 +77,17 @@ pub fn page(image: &[u8], slot: usize, offset: usize, output: &mut [u8]) -> Answ
     Ok(Paged { count, end: offset + count == file.length })
 }
 
+/// Stores the numbers of a file's blocks to the output's front, in the file's order, and gives how many: 10, 21.
+pub fn blocks(image: &[u8], slot: usize, output: &mut [u16]) -> Answer<usize> {
+    let disk = read(image)?;
+    let Some(file) = disk.file(slot) else { return refuse(10, 0) };
+    if output.len() < file.chain.len() {
+        return refuse(21, 0);
+    }
+    output.iter_mut().zip(&file.chain).for_each(|(stored, &block)| *stored = block as u16);
+    Ok(file.chain.len())
+}
+
 /// Puts a file and gives its slot: 11, 13, 12, 14, 15, 16.
 pub fn put(image: &mut [u8], name: &[u8], file_type: u8, content: &[u8]) -> Answer<usize> {
     let disk = read(image)?;

@@ -2,7 +2,7 @@
 //! bytes against the plain record.
 
 use model::calls;
-use model::disk::read;
+use model::disk::{content, read};
 use model::faults::{FAULTS, spoil};
 use model::files;
 use model::layout::{Kind, LAYOUTS};
@@ -87,6 +87,32 @@ fn calls_behave_as_the_record() {
                 let disk = read(&image).expect("accepted");
                 assert_eq!(record, Record::of(&image, &disk));
             }
+        }
+    }
+}
+
+/// A slot's blocks hold its content, and the output past them is kept; shorter outputs are refused.
+#[test]
+fn blocks_hold_the_content() {
+    let mut random = Random::new(6);
+    for (at, plan) in plans(&mut random) {
+        let image = maker::disk(LAYOUTS[at], plan, &mut random);
+        let disk = read(&image).expect("accepted");
+        for slot in 0..66 {
+            let mut output = vec![9; 1600];
+            let Some(file) = disk.file(slot) else {
+                assert_eq!(calls::blocks(&image, slot, &mut output), Err(Refusal { number: 10, place: 0 }));
+                continue;
+            };
+            let count = file.length.div_ceil(1024);
+            assert_eq!(calls::blocks(&image, slot, &mut output), Ok(count));
+            assert!(output[count..].iter().all(|&block| block == 9));
+            let held: Vec<&[u8]> =
+                output[..count].iter().map(|&b| &image[1024 * b as usize..][..1024]).collect();
+            assert_eq!(held.concat()[..file.length], content(&image, file));
+            let mut short = vec![9; count - 1];
+            assert_eq!(calls::blocks(&image, slot, &mut short), Err(Refusal { number: 21, place: 0 }));
+            assert_eq!(short, vec![9; count - 1]);
         }
     }
 }

@@ -1,6 +1,6 @@
 //! The worked disks and words of document 01.
 
-use model::calls::{check, put};
+use model::calls::{blocks, check, put};
 use model::layout::{Kind, LAYOUTS, Layout};
 use model::{Refusal, samples};
 
@@ -112,4 +112,6 @@ fn put_of_two_blocks() {
     assert_eq!(image[..24], *b"A         \0\0\0\0\0\0S\x01\x04\0\x04\0\0\0");
     assert_eq!(image[4096 + 1024..][..3], [7, 0, 0]);
     assert_eq!(counts(&image), (1, 794));
+    let mut two = [0; 2];
+    assert_eq!((blocks(&image, 0, &mut two), two), (Ok(2), [4, 5]));
 }
