@@ -1,12 +1,12 @@
-//! Image files: read whole or as far as their directory, and changed so that the old image or the new one is there
-//! at any time.
+//! Image files: read whole or as far as is needed, and changed so that the old image or the new one is there at any
+//! time.
 
 use crate::failure::Failure;
 use crate::save::Draft;
-use skilletjay::Image;
+use skilletjay::{BLOCK, HEAD, Image, Slot};
 use std::fs::{self, File, OpenOptions};
 use std::io::Read;
-use std::os::unix::fs::MetadataExt;
+use std::os::unix::fs::{FileExt, MetadataExt};
 use std::path::{Path, PathBuf};
 
 /// The lengths of images, low density and high.
@@ -14,9 +14,6 @@ const LENGTHS: [u64; 2] = [819_200, MOST];
 
 /// No image is longer; one byte more is enough to see that a file is no image.
 const MOST: u64 = 1_638_400;
-
-/// Directory and map lie in so many bytes of any image.
-const HEAD: usize = 5_120;
 
 /// Reads a file up to a length and one byte more.
 pub fn read_up_to(path: &Path, most: u64) -> Result<Vec<u8>, Failure> {
@@ -38,22 +35,63 @@ pub fn read(path: &Path) -> Result<Image, Failure> {
     Ok(Image::new(read_up_to(path, MOST)?))
 }
 
-/// Reads as much of an image as its check and its listing need. The rest is zeros, so no file's content may be taken
-/// from it.
+/// Reads as much of an image as its check and its listing need.
+pub fn read_head(path: &Path) -> Result<Image, Failure> {
+    Ok(Image::new(Opened::new(path)?.bytes))
+}
+
+/// An open image of which no more is read than its head and the files that are asked for. The rest is zeros, so no
+/// other file's content may be taken from it.
 ///
 /// The library's answers are those on the whole image: the length and the first 5,120 bytes decide the check
-/// (`head-decides` in rules/specs/Head.antt), and a slot lies in the directory, which is a part of them. Zeros that
-/// nobody reads cost no memory. What is no plain file, or not as long as an image, is read as [`read`] does.
-pub fn read_head(path: &Path) -> Result<Image, Failure> {
-    let failed = |error| Failure::file(path, error);
-    let mut file = File::open(path).map_err(failed)?;
-    let about = file.metadata().map_err(failed)?;
-    if !about.is_file() || !LENGTHS.contains(&about.len()) {
-        return Ok(Image::new(read_open(&file, path, MOST)?));
+/// (`head-decides` in rules/specs/Head.antt), the list of a slot, the slot of a name and a file's blocks (`list-enough`,
+/// `find-enough` and `blocks-enough` in locate/specs/Enough.antt), and with these blocks the file's pages
+/// (`page-enough` there). Zeros that nobody reads cost no memory. What is no plain file, or not as long as an image,
+/// is read as [`read`] does.
+pub struct Opened {
+    path: PathBuf,
+    file: File,
+    bytes: Vec<u8>,
+    whole: bool,
+}
+
+impl Opened {
+    /// Opens an image and reads its head.
+    pub fn new(path: &Path) -> Result<Opened, Failure> {
+        let failed = |error| Failure::file(path, error);
+        let mut file = File::open(path).map_err(failed)?;
+        let about = file.metadata().map_err(failed)?;
+        let whole = !about.is_file() || !LENGTHS.contains(&about.len());
+        let bytes = if whole {
+            read_open(&file, path, MOST)?
+        } else {
+            let mut bytes = vec![0; about.len() as usize];
+            file.read_exact(&mut bytes[..HEAD]).map_err(failed)?;
+            bytes
+        };
+        Ok(Opened { path: path.to_path_buf(), file, bytes, whole })
     }
-    let mut bytes = vec![0; about.len() as usize];
-    file.read_exact(&mut bytes[..HEAD]).map_err(failed)?;
-    Ok(Image::new(bytes))
+
+    /// The image as far as it is read.
+    pub fn image(&self) -> Image<&[u8]> {
+        Image::new(&self.bytes)
+    }
+
+    /// Reads the blocks of a slot's file to their places, neighbours at once. The file is the one that was opened, also
+    /// where another run has put a new image in its place.
+    pub fn fetch(&mut self, slot: Slot) -> Result<(), Failure> {
+        if self.whole {
+            return Ok(());
+        }
+        let blocks =
+            self.image().blocks(slot).map_err(|refusal| Failure::refused(self.path.display(), refusal))?;
+        for run in blocks.chunk_by(|one, next| one + 1 == *next) {
+            let at = BLOCK * usize::from(run[0]);
+            let part = &mut self.bytes[at..at + BLOCK * run.len()];
+            self.file.read_exact_at(part, at as u64).map_err(|error| Failure::file(&self.path, error))?;
+        }
+        Ok(())
+    }
 }
 
 /// Changes an image: one run after another, and no byte of the file is written in place.
@@ -82,5 +120,37 @@ fn lock(path: &PathBuf) -> Result<File, Failure> {
         if (held.dev(), held.ino()) == (there.dev(), there.ino()) {
             return Ok(file);
         }
+    }
+}
+
+#[cfg(test)]
+mod tests {
+    use super::*;
+    use model::disk;
+    use model::layout::LAYOUTS;
+    use model::maker::{self, Plan};
+    use model::random::Random;
+
+    /// What is read of an image whose every byte that no rule reads is noise: its head, and the file's blocks.
+    #[test]
+    fn a_fetch_reads_the_files_blocks_alone() {
+        let mut random = Random::new(7);
+        let path = std::env::temp_dir().join(format!("sj-fetch-{}", std::process::id()));
+        for layout in LAYOUTS {
+            let image = maker::disk(layout, Plan { files: 20, free: 100 }, &mut random);
+            fs::write(&path, &image).expect("written");
+            let disk = disk::read(&image).expect("accepted");
+            for (slot, file) in disk.files.iter().enumerate() {
+                let mut opened = Opened::new(&path).expect("opened");
+                assert_eq!(opened.fetch(Slot(slot)).is_ok(), file.is_some());
+                let mut expected = vec![0; image.len()];
+                let blocks = file.iter().flat_map(|file| &file.chain).map(|&block| BLOCK * block);
+                for at in (0..HEAD).step_by(BLOCK).chain(blocks) {
+                    expected[at..at + BLOCK].copy_from_slice(&image[at..at + BLOCK]);
+                }
+                assert!(opened.bytes == expected, "{layout:?} slot {slot}");
+            }
+        }
+        fs::remove_file(&path).expect("removed");
     }
 }

@@ -30,9 +30,18 @@ fn check_tells_each_image_and_the_worst_status() {
     folder.sj(&["check"]).failed(2, &["the image is missing", "--help"]);
 }
 
-/// Only the head of a plain file is read. A pipe has no length to tell, and other lengths need no image.
+/// The same command on a pipe that gives the image.
+fn piped(folder: &Folder, words: &[&str]) -> Ran {
+    let mut shell = Command::new("sh");
+    shell.args(["-c", "cat a.img | \"$@\"", "sh", env!("CARGO_BIN_EXE_sj")]);
+    shell.args(words.iter().map(|&word| if word == "a.img" { "/dev/stdin" } else { word }));
+    Ran::of(shell.current_dir(&folder.0).output().expect("sh runs"))
+}
+
+/// Of a plain file only the head is read, and the blocks of a file that is copied out. A pipe has no length to tell,
+/// and other lengths need no image.
 #[test]
-fn check_and_ls_tell_the_same_of_files_and_pipes() {
+fn files_and_pipes_are_told_alike() {
     let folder = Folder::new("pipes");
     let mut random = Random::new(5);
     for layout in LAYOUTS {
@@ -42,15 +51,19 @@ fn check_and_ls_tell_the_same_of_files_and_pipes() {
                 image[random.below(5120)] ^= 1 << random.below(8);
             }
             folder.write("a.img", &image);
-            for command in ["check", "ls"] {
-                let piped = format!("cat a.img | {} {command} /dev/stdin", env!("CARGO_BIN_EXE_sj"));
-                let piped = Command::new("sh").arg("-c").arg(piped).current_dir(&folder.0).output();
-                let (piped, plain) = (Ran::of(piped.expect("sh runs")), folder.sj(&[command, "a.img"]));
-                let named = |text: &str| text.replace("/dev/stdin", "a.img");
-                let out = String::from_utf8(piped.out).expect("text");
-                assert_eq!((piped.status, named(&out).into_bytes()), (plain.status, plain.out));
-                assert_eq!(named(&piped.err), plain.err);
-                assert_eq!(plain.status == Some(0), calls::check(&image).is_ok());
+            let used = read(&image).ok().and_then(|disk| disk.files.iter().position(Option::is_some));
+            let slot = format!("#{}", used.unwrap_or(0));
+            let get = ["get", "a.img", &slot, "-o", "-"];
+            for words in [&["check", "a.img"][..], &["ls", "a.img"], &get] {
+                let (piped, plain) = (piped(&folder, words), folder.sj(words));
+                assert_eq!(
+                    (plain.status == Some(0), plain.status),
+                    (calls::check(&image).is_ok(), piped.status)
+                );
+                let text = |bytes: &[u8]| String::from_utf8_lossy(bytes).replace("/dev/stdin", "a.img");
+                let alike = piped.out == plain.out || words != get && text(&piped.out) == text(&plain.out);
+                assert!(alike, "{words:?}");
+                assert_eq!(text(piped.err.as_bytes()), plain.err);
             }
         }
     }

@@ -2,6 +2,7 @@
 
 use crate::arguments::{Arguments, text};
 use crate::failure::Failure;
+use crate::image_file::Opened;
 use crate::progress::Progress;
 use crate::save::Draft;
 use crate::{image_file, output};
@@ -24,34 +25,34 @@ pub fn run(arguments: &mut Arguments) -> Result<(), Failure> {
     }
     let which = text("name", arguments.next("the file's name or #slot")?)?;
     arguments.end()?;
-    get_one(&path, &image_file::read(&path)?, &which, to, force)
+    get_one(&path, &which, to, force)
 }
 
-fn get_one(
-    path: &Path,
-    image: &Image,
-    which: &str,
-    to: Option<OsString>,
-    force: bool,
-) -> Result<(), Failure> {
+/// Only the image's head and the file's own blocks are read.
+fn get_one(path: &Path, which: &str, to: Option<OsString>, force: bool) -> Result<(), Failure> {
     let refused = |refusal| Failure::refused(format!("{}: {which}", path.display()), refusal);
+    let mut opened = Opened::new(path)?;
+    let image = opened.image();
     let kind = image.check().map_err(|refusal| Failure::refused(path.display(), refusal))?.kind;
     let slot = match slot_number(which) {
         Some(slot) => slot,
         None => image.find(kind.padded(which)).map_err(refused)?,
     };
-    if to.as_deref() == Some(OsStr::new("-")) {
-        return output::write(&image.read(slot).map_err(refused)?);
-    }
     let entry = image.list(slot).map_err(refused)?;
-    match to {
-        Some(to) => download(path, image, &entry, Path::new(&to)),
+    if to.as_deref() == Some(OsStr::new("-")) {
+        opened.fetch(slot)?;
+        return output::write(&opened.image().read(slot).map_err(refused)?);
+    }
+    let to = match to {
+        Some(to) => PathBuf::from(to),
         None => {
             let to = PathBuf::from(file_name(&entry));
             free_to_write(&to, force)?;
-            download(path, image, &entry, &to)
+            to
         }
-    }
+    };
+    opened.fetch(slot)?;
+    download(path, opened.image(), &entry, &to)
 }
 
 /// `#` and digits alone are a slot; all else is a name.
@@ -72,7 +73,7 @@ fn get_all(path: &Path, image: &Image, folder: &Path, force: bool) -> Result<(),
     }
     let mut progress = Progress::new(entries.len());
     for (entry, to) in entries.iter().zip(&files) {
-        download(path, image, entry, to)?;
+        download(path, Image::new(image.bytes()), entry, to)?;
         progress.step();
     }
     Ok(())
@@ -87,7 +88,7 @@ fn free_to_write(to: &Path, force: bool) -> Result<(), Failure> {
 }
 
 /// Pages a file to its end; only a complete one gets its final name.
-fn download(path: &Path, image: &Image, entry: &Entry, to: &Path) -> Result<(), Failure> {
+fn download(path: &Path, image: Image<&[u8]>, entry: &Entry, to: &Path) -> Result<(), Failure> {
     let mut draft = Draft::new(to)?;
     let mut pages = image.download(entry.slot);
     for page in &mut pages {
