@@ -180,6 +180,23 @@ fn get_all_copies_every_file() {
     assert_eq!(all.read("a_b.S"), [1]);
 }
 
+/// The name that the third file gets beside the second is the first one's.
+#[test]
+fn get_all_loses_no_file() {
+    let folder = Folder::new("get-all-names");
+    let mut image = vec![0; 819_200];
+    let names = [b"2-A_B     ", b"a/b       ", b"A_B       "];
+    for (name, bytes) in names.into_iter().zip(1..) {
+        calls::put(&mut image, name, b'S', &vec![bytes as u8; bytes]).expect("room");
+    }
+    folder.write("a.img", &image);
+    folder.sj(&["get", "a.img", "--all", "-o", "all"]).done();
+    let all = Folder(folder.0.join("all"));
+    let mut lengths: Vec<usize> = all.names().iter().map(|name| all.read(name).len()).collect();
+    lengths.sort_unstable();
+    assert_eq!(lengths, [1, 2, 3]);
+}
+
 #[test]
 fn help_and_wrong_commands() {
     let folder = Folder::new("help");

@@ -108,15 +108,14 @@ fn file_name(entry: &Entry) -> String {
     format!("{first}{name}.{}", char::from(entry.file_type))
 }
 
-/// All files' names; two that would be one, in any case of letters, get their slot too.
+/// All files' names; one that would be another's, in any case of letters, gets its slot before it until it is new.
 fn file_names(entries: &[Entry]) -> Vec<String> {
     let mut taken = HashSet::new();
     let mut names = Vec::new();
     for entry in entries {
         let mut name = file_name(entry);
-        if !taken.insert(name.to_lowercase()) {
+        while !taken.insert(name.to_lowercase()) {
             name = format!("{}-{name}", entry.slot.0);
-            taken.insert(name.to_lowercase());
         }
         names.push(name);
     }
@@ -143,5 +142,11 @@ mod tests {
         let entries =
             [entry(0, "a/b       "), entry(1, "A_B       "), entry(2, "..        "), entry(3, "          ")];
         assert_eq!(file_names(&entries), ["a_b.S", "1-A_B.S", "_...S", "_.S"]);
+    }
+
+    #[test]
+    fn a_name_with_its_slot_may_be_taken_too() {
+        let entries = [entry(0, "2-A_B     "), entry(1, "a/b       "), entry(2, "A_B       ")];
+        assert_eq!(file_names(&entries), ["2-A_B.S", "a_b.S", "2-2-A_B.S"]);
     }
 }
