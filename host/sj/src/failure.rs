@@ -1,5 +1,6 @@
 //! Why a run failed, what is told about it, and the exit status.
 
+use crate::output;
 use skilletjay::Refusal;
 use std::fmt::Display;
 use std::io;
@@ -38,7 +39,7 @@ impl Failure {
     /// Tells it on standard error.
     pub fn tell(&self) {
         match self {
-            Failure::Refused(text) | Failure::Usage(text) | Failure::File(text) => eprintln!("sj: {text}"),
+            Failure::Refused(text) | Failure::Usage(text) | Failure::File(text) => output::warn(text),
             Failure::Told(_) => {}
         }
     }

@@ -28,7 +28,7 @@ impl Progress {
         self.done += 1;
         let recent = self.told.is_some_and(|told| told.elapsed() < BETWEEN);
         if self.terminal && self.start.elapsed() > PATIENCE && !recent {
-            eprint!("\r{} of {}", self.done, self.all);
+            let _ = write!(stderr(), "\r{} of {}", self.done, self.all); // it is no part of the work
             self.told = Some(Instant::now());
             self.shown = true;
         }
@@ -38,8 +38,7 @@ impl Progress {
     pub fn clear(&mut self) {
         if self.shown {
             self.shown = false;
-            eprint!("\r\x1b[K");
-            let _ = stderr().flush(); // nothing is lost if it stays
+            let _ = write!(stderr(), "\r\x1b[K"); // nothing is lost if it stays
         }
     }
 }

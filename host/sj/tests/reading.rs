@@ -8,7 +8,7 @@ use model::disk::{content, read};
 use model::layout::{LAYOUTS, Layout};
 use model::random::Random;
 use std::fs;
-use std::process::Command;
+use std::process::{Command, Stdio};
 
 const S900_LOW: Layout = LAYOUTS[0];
 const S1000_HIGH: Layout = LAYOUTS[3];
@@ -195,6 +195,34 @@ fn get_all_loses_no_file() {
     let mut lengths: Vec<usize> = all.names().iter().map(|name| all.read(name).len()).collect();
     lengths.sort_unstable();
     assert_eq!(lengths, [1, 2, 3]);
+}
+
+/// A message that can't be written changes no status.
+#[test]
+fn a_failing_standard_error_keeps_the_status() {
+    let folder = Folder::new("full");
+    folder.write("short.img", &[0; 100]);
+    let full = || fs::OpenOptions::new().write(true).open("/dev/full").expect("a full device");
+    for (words, status) in [(&["check", "short.img"][..], 1), (&["check", "none.img"], 2), (&["dance"], 2)] {
+        let ended = folder.command(words).stderr(full()).status().expect("sj runs");
+        assert_eq!(ended.code(), Some(status), "{words:?}");
+    }
+}
+
+/// A reader that closes a listing has seen enough; one that closes a file that is copied out hasn't got it.
+#[test]
+fn a_closed_standard_output_fails_get_alone() {
+    let folder = Folder::new("closed");
+    let mut image = vec![0; 819_200];
+    calls::put(&mut image, b"LONG      ", b'S', &[1; 300_000]).expect("room");
+    folder.write("a.img", &image);
+    for (words, status) in [(&["get", "a.img", "LONG", "-o", "-"][..], 2), (&["ls", "a.img"], 0)] {
+        let mut command = folder.command(words);
+        let mut run = command.stdout(Stdio::piped()).stderr(Stdio::piped()).spawn().expect("sj runs");
+        drop(run.stdout.take()); // no pipe holds as much as the file
+        let ran = Ran::of(run.wait_with_output().expect("ended"));
+        assert_eq!((ran.status, ran.err.contains("standard output")), (Some(status), status == 2));
+    }
 }
 
 #[test]
