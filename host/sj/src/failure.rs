@@ -36,6 +36,14 @@ impl Failure {
         Failure::File(format!("{}: {error}", path.display()))
     }
 
+    /// The same, told with what was done all the same.
+    pub fn after(mut self, done: impl Display) -> Failure {
+        if let Failure::Refused(text) | Failure::Usage(text) | Failure::File(text) = &mut self {
+            *text = format!("{done}, but {text}");
+        }
+        self
+    }
+
     /// Tells it on standard error.
     pub fn tell(&self) {
         match self {

@@ -60,6 +60,19 @@ fn refused_changes_leave_the_image() {
     assert_eq!(folder.names(), ["a.img", "empty", "full.img", "long", "one"]);
 }
 
+/// Whoever isn't told the slot is told that the file is there.
+#[test]
+fn a_put_whose_slot_cant_be_told_says_that_it_was_done() {
+    let folder = Folder::new("put-full");
+    folder.write("a.img", &vec![0; 819_200]);
+    folder.write("one", b"1");
+    let full = fs::OpenOptions::new().write(true).open("/dev/full").expect("a full device");
+    let mut command = folder.command(&["put", "a.img", "one", "--name", "A", "--type", "S"]);
+    let ran = Ran::of(command.stdout(full).output().expect("sj runs"));
+    ran.failed(2, &["the file was put into #0, but standard output"]);
+    assert_eq!(calls::find(&folder.read("a.img"), b"A         "), Ok(0));
+}
+
 #[test]
 fn a_changed_image_keeps_mode_and_links() {
     let folder = Folder::new("mode");

@@ -28,6 +28,7 @@ pub fn put(arguments: &mut Arguments) -> Result<(), Failure> {
         image.put(&name, file_type, &content).map_err(|refusal| about(&path, &name, refusal))
     })?;
     output::say(&format!("{slot}\n"))
+        .map_err(|failure| failure.after(format!("the file was put into {slot}")))
 }
 
 /// Removes a file from an image.
