@@ -102,8 +102,7 @@ pub fn change<T>(path: &Path, change: impl FnOnce(&mut Image) -> Result<T, Failu
     let mut image = Image::new(read_open(&file, &path, MOST)?);
     let given = change(&mut image)?;
     let old = file.metadata().map_err(|error| Failure::file(&path, error))?;
-    let mut draft = Draft::new(&path)?;
-    draft.like(&old)?;
+    let mut draft = Draft::replacing(&path, &old)?;
     draft.write(image.bytes())?;
     draft.keep()?;
     Ok(given)

@@ -2,16 +2,18 @@
 //! interrupted run leaves the final name as it was.
 
 use crate::failure::Failure;
+use crate::output;
 use std::ffi::OsString;
 use std::fs::{self, File, Metadata, OpenOptions};
 use std::io::{self, Write};
-use std::os::unix::fs::MetadataExt;
-use std::os::unix::fs::{OpenOptionsExt, fchown};
+use std::os::unix::fs::{MetadataExt, OpenOptionsExt, fchown};
 use std::path::{Path, PathBuf};
 
 /// A file being written under another name; dropped before it is kept, it is removed.
 pub struct Draft {
     file: File,
+    /// Opened before anything is written, so that a folder that can't be synced is refused while nothing is changed.
+    folder: File,
     at: PathBuf,
     path: PathBuf,
     kept: bool,
@@ -20,14 +22,30 @@ pub struct Draft {
 impl Draft {
     /// Begins a file beside its final path. A folder or a device there is never replaced.
     pub fn new(path: &Path) -> Result<Draft, Failure> {
+        Draft::begin(path, 0o666)
+    }
+
+    /// Begins a file that takes another's place, with its mode and if possible its owner. Before it has them nobody else
+    /// may read it.
+    pub fn replacing(path: &Path, old: &Metadata) -> Result<Draft, Failure> {
+        let draft = Draft::begin(path, 0o600)?;
+        let _ = fchown(&draft.file, Some(old.uid()), Some(old.gid())); // only root may give files away
+        match draft.file.set_permissions(old.permissions()) {
+            Ok(()) => Ok(draft),
+            Err(error) => Err(Failure::file(&draft.at, error)),
+        }
+    }
+
+    fn begin(path: &Path, mode: u32) -> Result<Draft, Failure> {
         if path.metadata().is_ok_and(|there| !there.is_file()) {
             return Err(Failure::File(format!("{} is there already and no plain file", path.display())));
         }
+        let folder = open_folder(folder_of(path))?;
         let mut turn = 0;
         loop {
             let at = beside(path, turn)?;
-            match OpenOptions::new().write(true).create_new(true).mode(0o666).open(&at) {
-                Ok(file) => return Ok(Draft { file, at, path: path.to_path_buf(), kept: false }),
+            match OpenOptions::new().write(true).create_new(true).mode(mode).open(&at) {
+                Ok(file) => return Ok(Draft { file, folder, at, path: path.to_path_buf(), kept: false }),
                 Err(error) if error.kind() == io::ErrorKind::AlreadyExists && turn < 100 => turn += 1,
                 Err(error) => return Err(Failure::file(&at, error)),
             }
@@ -39,19 +57,16 @@ impl Draft {
         self.file.write_all(bytes).map_err(|error| Failure::file(&self.at, error))
     }
 
-    /// Gives it the mode, and if possible the owner, of a file that it will replace.
-    pub fn like(&mut self, old: &Metadata) -> Result<(), Failure> {
-        let _ = fchown(&self.file, Some(old.uid()), Some(old.gid())); // only root may give files away
-        self.file.set_permissions(old.permissions()).map_err(|error| Failure::file(&self.at, error))
-    }
-
-    /// Puts it under its final name.
+    /// Puts it under its final name. After the rename the file is in place, so that all that can still fail is a message.
     pub fn keep(mut self) -> Result<(), Failure> {
         self.file.sync_all().map_err(|error| Failure::file(&self.at, error))?;
         fs::rename(&self.at, &self.path).map_err(|error| Failure::file(&self.path, error))?;
         self.kept = true;
-        let folder = folder_of(&self.path);
-        File::open(folder).and_then(|folder| folder.sync_all()).map_err(|error| Failure::file(folder, error))
+        if let Err(error) = self.folder.sync_all() {
+            let path = self.path.display();
+            output::warn(&format!("{path} is in place, but may not survive a power cut: {error}"));
+        }
+        Ok(())
     }
 }
 
@@ -75,6 +90,11 @@ fn folder_of(path: &Path) -> &Path {
         Some(folder) if !folder.as_os_str().is_empty() => folder,
         _ => Path::new("."),
     }
+}
+
+fn open_folder(folder: &Path) -> Result<File, Failure> {
+    let told = |error| Failure::File(format!("the folder {}, to be synced: {error}", folder.display()));
+    File::open(folder).map_err(told)
 }
 
 /// A hidden name in the same folder, so that the rename stays on one file system.

@@ -6,7 +6,8 @@ use common::{Folder, Ran, disk};
 use model::calls;
 use model::layout::LAYOUTS;
 use std::fs;
-use std::os::unix::fs::{PermissionsExt, symlink};
+use std::os::unix::fs::{MetadataExt, PermissionsExt, symlink};
+use std::os::unix::process::CommandExt;
 use std::process::Command;
 
 #[test]
@@ -85,6 +86,62 @@ fn a_changed_image_keeps_mode_and_links() {
     assert_eq!(fs::metadata(&path).expect("there").permissions().mode() & 0o7777, 0o640);
     assert!(fs::symlink_metadata(folder.0.join("link.img")).expect("there").is_symlink());
     assert!(folder.sj(&["ls", "a.img"]).done().contains("[A         ]"));
+}
+
+/// The command run by nobody, who may not read what belongs to others; None where that isn't possible.
+fn by_nobody(folder: &Folder, words: &[&str]) -> Option<Ran> {
+    let owner = fs::metadata(&folder.0).expect("there").uid();
+    let mut command = folder.command(words);
+    if owner == 0 {
+        command.uid(65_534).gid(65_534);
+    }
+    command.output().ok().map(Ran::of)
+}
+
+/// A folder that can be written but not read can't be synced: nothing is changed in it.
+#[test]
+fn a_folder_that_cant_be_synced_is_refused_first() {
+    let folder = Folder::new("unreadable");
+    let image = vec![0; 819_200];
+    folder.write("a.img", &image);
+    folder.write("one", b"1");
+    let mode = |path: &str, mode| {
+        fs::set_permissions(folder.0.join(path), fs::Permissions::from_mode(mode)).expect("mode");
+    };
+    mode("a.img", 0o666);
+    mode(".", 0o333);
+    let ran = by_nobody(&folder, &["put", "a.img", "one", "--name", "A", "--type", "S"]);
+    mode(".", 0o755);
+    let Some(ran) = ran else { return println!("skipped: nobody can't run {}", env!("CARGO_BIN_EXE_sj")) };
+    ran.failed(2, &["the folder", "to be synced"]);
+    assert!(folder.read("a.img") == image);
+    assert_eq!(folder.names(), ["a.img", "one"]);
+}
+
+/// A traced put; None where there is no strace or it may not trace.
+fn traced(folder: &Folder, inject: &str) -> Option<(Ran, String)> {
+    let mut command = Command::new("strace");
+    command.args(["-o", "trace", "-e", "trace=fsync,openat", "-e", &format!("inject={inject}")]);
+    command.arg(env!("CARGO_BIN_EXE_sj")).args(["put", "a.img", "one", "--name", "A", "--type", "S"]);
+    let ran = Ran::of(command.current_dir(&folder.0).output().ok()?);
+    let trace = fs::read_to_string(folder.0.join("trace")).ok()?;
+    trace.contains("INJECTED").then_some((ran, trace))
+}
+
+/// The second sync is the folder's, after the rename. Until the new image has the old one's mode, it is private.
+#[test]
+fn a_folder_whose_sync_fails_is_told() {
+    let folder = Folder::new("unsynced");
+    folder.write("a.img", &vec![0; 819_200]);
+    folder.write("one", b"1");
+    let Some((ran, trace)) = traced(&folder, "fsync:error=EIO:when=2") else {
+        return println!("skipped: strace is not there or may not trace");
+    };
+    assert_eq!((ran.status, ran.out), (Some(0), b"#0\n".to_vec()));
+    assert!(ran.err.contains("a.img is in place, but may not survive a power cut"), "{}", ran.err);
+    assert_eq!(calls::find(&folder.read("a.img"), b"A         "), Ok(0));
+    let draft = trace.lines().find(|line| line.contains(".a.img.sj-")).expect("a draft");
+    assert!(draft.contains("0600"), "{draft}");
 }
 
 /// A run that can't write the new image: the old one stays whole.

@@ -155,7 +155,7 @@ fn get_takes_the_name_and_replaces_nothing_unasked() {
     assert_eq!(folder.read("a_b.S"), b"one");
     fs::create_dir(folder.0.join("taken")).expect("a folder");
     folder.sj(&["get", "a.img", "#0", "-o", "taken"]).failed(2, &["no plain file"]);
-    folder.sj(&["get", "a.img", "#0", "-o", "none/x"]).failed(2, &["none/"]);
+    folder.sj(&["get", "a.img", "#0", "-o", "none/x"]).failed(2, &["the folder none"]);
 }
 
 #[test]
