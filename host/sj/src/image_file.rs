@@ -4,7 +4,7 @@
 use crate::failure::Failure;
 use crate::save::Draft;
 use skilletjay::{BLOCK, HEAD, Image, Slot};
-use std::fs::{self, File, OpenOptions};
+use std::fs::{self, File, Metadata, OpenOptions};
 use std::io::Read;
 use std::os::unix::fs::{FileExt, MetadataExt};
 use std::path::{Path, PathBuf};
@@ -94,6 +94,19 @@ impl Opened {
     }
 }
 
+/// Whether two paths lead to one file.
+pub fn are_one(path: &Path, other: &Path) -> bool {
+    match (fs::metadata(path), fs::metadata(other)) {
+        (Ok(one), Ok(other)) => identity(&one) == identity(&other),
+        _ => false,
+    }
+}
+
+/// What a file has alone, whatever its names.
+fn identity(about: &Metadata) -> (u64, u64) {
+    (about.dev(), about.ino())
+}
+
 /// Changes an image: one run after another, and no byte of the file is written in place.
 pub fn change<T>(path: &Path, change: impl FnOnce(&mut Image) -> Result<T, Failure>) -> Result<T, Failure> {
     // Through links to the file itself, so that the rename replaces it and not a link.
@@ -116,7 +129,7 @@ fn lock(path: &PathBuf) -> Result<File, Failure> {
         let file = OpenOptions::new().read(true).write(true).open(path).map_err(failed)?;
         file.lock().map_err(failed)?;
         let (held, there) = (file.metadata().map_err(failed)?, fs::metadata(path).map_err(failed)?);
-        if (held.dev(), held.ino()) == (there.dev(), there.ino()) {
+        if identity(&held) == identity(&there) {
             return Ok(file);
         }
     }

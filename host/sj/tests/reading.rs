@@ -8,6 +8,7 @@ use model::disk::{content, read};
 use model::layout::{LAYOUTS, Layout};
 use model::random::Random;
 use std::fs;
+use std::os::unix::fs::symlink;
 use std::process::{Command, Stdio};
 
 const S900_LOW: Layout = LAYOUTS[0];
@@ -156,6 +157,22 @@ fn get_takes_the_name_and_replaces_nothing_unasked() {
     fs::create_dir(folder.0.join("taken")).expect("a folder");
     folder.sj(&["get", "a.img", "#0", "-o", "taken"]).failed(2, &["no plain file"]);
     folder.sj(&["get", "a.img", "#0", "-o", "none/x"]).failed(2, &["the folder none"]);
+}
+
+/// Under any of its names, also where a file is replaced by force.
+#[test]
+fn get_never_replaces_its_image() {
+    let folder = Folder::new("get-itself");
+    let mut image = vec![0; 819_200];
+    calls::put(&mut image, b"DISK      ", b'I', b"one").expect("room");
+    folder.write("DISK.I", &image);
+    symlink("DISK.I", folder.0.join("link")).expect("link");
+    for words in [&["#0", "-o", "DISK.I"][..], &["DISK", "-o", "link"], &["#0", "--force"]] {
+        folder.sj(&[&["get", "DISK.I"], words].concat()).failed(2, &["is the image itself"]);
+    }
+    folder.sj(&["get", "link", "--all", "-o", ".", "--force"]).failed(2, &["is the image itself"]);
+    assert!(folder.read("DISK.I") == image);
+    assert_eq!(folder.names(), ["DISK.I", "link"]);
 }
 
 #[test]

@@ -43,14 +43,11 @@ fn get_one(path: &Path, which: &str, to: Option<OsString>, force: bool) -> Resul
         opened.fetch(slot)?;
         return output::write(&opened.image().read(slot).map_err(refused)?);
     }
-    let to = match to {
-        Some(to) => PathBuf::from(to),
-        None => {
-            let to = PathBuf::from(file_name(&entry));
-            free_to_write(&to, force)?;
-            to
-        }
+    let (to, replace) = match to {
+        Some(to) => (PathBuf::from(to), true),
+        None => (PathBuf::from(file_name(&entry)), force),
     };
+    free_to_write(path, &to, replace)?;
     opened.fetch(slot)?;
     download(path, opened.image(), &entry, &to)
 }
@@ -69,7 +66,7 @@ fn get_all(path: &Path, image: &Image, folder: &Path, force: bool) -> Result<(),
     fs::create_dir_all(folder).map_err(|error| Failure::file(folder, error))?;
     let files: Vec<PathBuf> = file_names(&entries).into_iter().map(|name| folder.join(name)).collect();
     for to in &files {
-        free_to_write(to, force)?;
+        free_to_write(path, to, force)?;
     }
     let mut progress = Progress::new(entries.len());
     for (entry, to) in entries.iter().zip(&files) {
@@ -79,9 +76,12 @@ fn get_all(path: &Path, image: &Image, folder: &Path, force: bool) -> Result<(),
     Ok(())
 }
 
-/// A name that sj chose never replaces a file unasked.
-fn free_to_write(to: &Path, force: bool) -> Result<(), Failure> {
-    if !force && to.symlink_metadata().is_ok() {
+/// A name that sj chose never replaces a file unasked, and no name replaces the image that is read.
+fn free_to_write(image: &Path, to: &Path, replace: bool) -> Result<(), Failure> {
+    if image_file::are_one(image, to) {
+        return Err(Failure::File(format!("{} is the image itself; take another name", to.display())));
+    }
+    if !replace && to.symlink_metadata().is_ok() {
         return Err(Failure::File(format!("{} is there already; --force replaces it", to.display())));
     }
     Ok(())
