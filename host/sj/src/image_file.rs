@@ -2,7 +2,7 @@
 //! time.
 
 use crate::failure::Failure;
-use crate::save::Draft;
+use crate::save::{self, Draft};
 use skilletjay::{BLOCK, HEAD, Image, Slot};
 use std::fs::{self, File, Metadata, OpenOptions};
 use std::io::Read;
@@ -115,6 +115,7 @@ pub fn change<T>(path: &Path, change: impl FnOnce(&mut Image) -> Result<T, Failu
     let mut image = Image::new(read_open(&file, &path, MOST)?);
     let given = change(&mut image)?;
     let old = file.metadata().map_err(|error| Failure::file(&path, error))?;
+    save::remove_stale(&path);
     let mut draft = Draft::replacing(&path, &old)?;
     draft.write(image.bytes())?;
     draft.keep()?;

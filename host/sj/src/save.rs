@@ -1,11 +1,12 @@
 //! Files written whole or not at all: to a new name beside the final one, synced, then renamed over it. An
-//! interrupted run leaves the final name as it was.
+//! interrupted run leaves the final name as it was, and perhaps the new one, a draft.
 
 use crate::failure::Failure;
 use crate::output;
-use std::ffi::OsString;
+use std::ffi::{OsStr, OsString};
 use std::fs::{self, File, Metadata, OpenOptions};
 use std::io::{self, Write};
+use std::os::unix::ffi::OsStrExt;
 use std::os::unix::fs::{MetadataExt, OpenOptionsExt, fchown};
 use std::path::{Path, PathBuf};
 
@@ -106,4 +107,60 @@ fn beside(path: &Path, turn: u32) -> Result<PathBuf, Failure> {
     hidden.push(name);
     hidden.push(format!(".sj-{}-{turn}", std::process::id()));
     Ok(folder_of(path).join(hidden))
+}
+
+/// Removes the drafts that interrupted runs left beside a file. Whoever calls it holds the file's lock, so no run that
+/// changes the file writes one now; a draft of another run, which is being copied out, has a process that is there.
+pub fn remove_stale(path: &Path) {
+    if !Path::new("/proc/self").exists() {
+        return; // no process can be seen
+    }
+    let Ok(entries) = fs::read_dir(folder_of(path)) else { return };
+    for entry in entries.flatten() {
+        let is_plain = entry.file_type().is_ok_and(|kind| kind.is_file());
+        let process = drafted_by(path, &entry.file_name());
+        if is_plain && process.is_some_and(|process| !Path::new(&format!("/proc/{process}")).exists()) {
+            let _ = fs::remove_file(entry.path()); // it is only in the way
+        }
+    }
+}
+
+/// The process whose draft of a file has a name; None if the name is no draft's.
+fn drafted_by(path: &Path, name: &OsStr) -> Option<u32> {
+    let rest = name.as_bytes().strip_prefix(b".")?.strip_prefix(path.file_name()?.as_bytes())?;
+    let (process, turn) = str::from_utf8(rest.strip_prefix(b".sj-")?).ok()?.split_once('-')?;
+    let number = |text: &str| text.parse().ok().filter(|number: &u32| number.to_string() == text);
+    number(turn).and(number(process))
+}
+
+#[cfg(test)]
+mod tests {
+    use super::*;
+
+    #[test]
+    fn drafts_are_known_by_their_exact_names() {
+        let process = |name: &str| drafted_by(Path::new("x/a.img"), OsStr::new(name));
+        assert_eq!(process(".a.img.sj-12-0"), Some(12));
+        let own = beside(Path::new("x/a.img"), 7).expect("a name");
+        assert_eq!(
+            own.file_name().and_then(|own| drafted_by(Path::new("a.img"), own)),
+            Some(std::process::id())
+        );
+        for other in [
+            "a.img.sj-12-0",
+            ".b.img.sj-12-0",
+            ".a.img.sj-12",
+            ".a.img.sj-12-",
+            ".a.img.sj--0",
+            ".a.img.sj-012-0",
+        ] {
+            assert_eq!(process(other), None, "{other}");
+        }
+        let start = [".a.img", "a.img.sj-12-0", ".b.img.sj-12-0", ".a.imgX.sj-12-0", ".a.img.sj-12"];
+        let end =
+            [".a.img.sj-12-", ".a.img.sj--0", ".a.img.sj-012-0", ".a.img.sj-+12-0", ".a.img.sj-12-0.bak"];
+        for other in start.into_iter().chain(end) {
+            assert_eq!(process(other), None, "{other}");
+        }
+    }
 }

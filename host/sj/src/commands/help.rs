@@ -25,7 +25,8 @@ such a name is reached by its slot. Where no FILE is given, get takes the name a
 replaces a file that is there only with --force. -- ends the options.
 
 An image is changed in a copy beside it, which then takes its place: a run that fails leaves the
-image as it was, and of two runs at once one waits for the other.
+image as it was, and of two runs at once one waits for the other. An interrupted run may leave the
+copy, a hidden file .IMAGE.sj- and two numbers; the next run that changes the image removes it.
 
 WAV files have one channel and 16 bits. S900 words have 12: unpack shifts them left by four, and
 pack refuses words whose low four bits aren't zero rather than lose them. pack takes number of
