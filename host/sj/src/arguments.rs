@@ -1,6 +1,7 @@
 //! The command line taken apart: options may stand anywhere, and `--` ends them.
 
 use crate::failure::Failure;
+use skilletjay::Slot;
 use std::collections::VecDeque;
 use std::ffi::OsString;
 use std::path::PathBuf;
@@ -81,6 +82,15 @@ pub fn text(what: &str, word: OsString) -> Result<String, Failure> {
     word.into_string().map_err(|_| Failure::usage(format!("the {what} is no text")))
 }
 
+/// `#` and digits alone are a slot; all else is a name.
+pub fn slot_number(which: &str) -> Option<Slot> {
+    let digits = which.strip_prefix('#')?;
+    if digits.is_empty() || !digits.bytes().all(|byte| byte.is_ascii_digit()) {
+        return None;
+    }
+    Some(Slot(digits.parse().unwrap_or(usize::MAX))) // a number too large is no slot either
+}
+
 #[cfg(test)]
 mod tests {
     use super::*;
@@ -108,5 +118,12 @@ mod tests {
         assert!(line.next("x").is_err());
         assert!(arguments(&["-o"]).value("-o").is_err());
         assert!(arguments(&["x"]).end().is_err());
+    }
+
+    #[test]
+    fn slots_and_names_are_told_apart() {
+        assert_eq!(slot_number("#12"), Some(Slot(12)));
+        assert_eq!(slot_number("#99999999999999999999999"), Some(Slot(usize::MAX)));
+        assert_eq!([slot_number("12"), slot_number("#"), slot_number("#1 "), slot_number("#+1")], [None; 4]);
     }
 }

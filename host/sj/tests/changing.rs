@@ -56,6 +56,7 @@ fn refused_changes_leave_the_image() {
     put("none.img", "one", "NEW", "S").failed(2, &["none.img"]);
     folder.sj(&["put", "a.img", "one", "--type", "S"]).failed(2, &["--name is needed"]);
     folder.sj(&["rm", "a.img", "B"]).failed(1, &["refusal 10"]);
+    folder.sj(&["rm", "a.img", "#0"]).failed(1, &["refusal 10", "rm takes #0 as a name"]);
     folder.sj(&["rm", "a.img"]).failed(2, &["missing"]);
     assert!(folder.read("full.img") == image && folder.read("a.img") == roomy);
     assert_eq!(folder.names(), ["a.img", "empty", "full.img", "long", "one"]);
@@ -86,6 +87,22 @@ fn a_changed_image_keeps_mode_and_links() {
     assert_eq!(fs::metadata(&path).expect("there").permissions().mode() & 0o7777, 0o640);
     assert!(fs::symlink_metadata(folder.0.join("link.img")).expect("there").is_symlink());
     assert!(folder.sj(&["ls", "a.img"]).done().contains("[A         ]"));
+}
+
+/// A name of digits and # is a name: the file goes, and not the one in that slot.
+#[test]
+fn rm_takes_names_alone() {
+    let folder = Folder::new("rm-names");
+    let mut image = vec![0; 819_200];
+    for name in [b"A         ", b"#0        "] {
+        calls::put(&mut image, name, b'S', b"x").expect("room");
+    }
+    folder.write("a.img", &image);
+    fs::hard_link(folder.0.join("a.img"), folder.0.join("other.img")).expect("a link");
+    folder.sj(&["rm", "a.img", "#0"]).done();
+    assert!(folder.read("other.img") == image); // as the help says
+    calls::remove(&mut image, b"#0        ").expect("there");
+    assert!(folder.read("a.img") == image);
 }
 
 /// The command run by nobody, who may not read what belongs to others; None where that isn't possible.

@@ -1,6 +1,6 @@
 //! `sj put IMAGE FILE --name NAME --type T` and `sj rm IMAGE NAME`
 
-use crate::arguments::{Arguments, text};
+use crate::arguments::{Arguments, slot_number, text};
 use crate::failure::Failure;
 use crate::{image_file, output};
 use skilletjay::{Image, Kind, Refusal};
@@ -38,8 +38,21 @@ pub fn remove(arguments: &mut Arguments) -> Result<(), Failure> {
     arguments.end()?;
     image_file::change(&path, |image| {
         let name = kind_of(&path, image)?.padded(&name);
-        image.remove(&name).map_err(|refusal| about(&path, &name, refusal))
+        image.remove(&name).map_err(|refusal| about_removal(&path, &name, refusal))
     })
+}
+
+/// Who gives a slot, as get takes it, is told that here it is a name.
+fn about_removal(path: &Path, name: &str, refusal: Refusal) -> Failure {
+    let name = name.trim_end();
+    match about(path, name, refusal) {
+        Failure::Refused(text) if refusal.number() == 10 && slot_number(name).is_some() => {
+            Failure::Refused(format!(
+                "{text}\nrm takes {name} as a name, not as a slot: give the name that ls tells for the slot."
+            ))
+        }
+        failure => failure,
+    }
 }
 
 fn about(path: &Path, name: &str, refusal: Refusal) -> Failure {

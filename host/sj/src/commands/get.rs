@@ -1,12 +1,12 @@
 //! `sj get IMAGE NAME|#SLOT [-o FILE]` and `sj get IMAGE --all -o DIR`
 
-use crate::arguments::{Arguments, text};
+use crate::arguments::{Arguments, slot_number, text};
 use crate::failure::Failure;
 use crate::image_file::Opened;
 use crate::progress::Progress;
 use crate::save::Draft;
 use crate::{image_file, output};
-use skilletjay::{Entry, Image, Slot};
+use skilletjay::{Entry, Image};
 use std::collections::HashSet;
 use std::ffi::{OsStr, OsString};
 use std::fs;
@@ -50,15 +50,6 @@ fn get_one(path: &Path, which: &str, to: Option<OsString>, force: bool) -> Resul
     free_to_write(path, &to, replace)?;
     opened.fetch(slot)?;
     download(path, opened.image(), &entry, &to)
-}
-
-/// `#` and digits alone are a slot; all else is a name.
-fn slot_number(which: &str) -> Option<Slot> {
-    let digits = which.strip_prefix('#')?;
-    if digits.is_empty() || !digits.bytes().all(|byte| byte.is_ascii_digit()) {
-        return None;
-    }
-    Some(Slot(digits.parse().unwrap_or(usize::MAX))) // a number too large is no slot either
 }
 
 fn get_all(path: &Path, image: &Image, folder: &Path, force: bool) -> Result<(), Failure> {
@@ -125,16 +116,10 @@ fn file_names(entries: &[Entry]) -> Vec<String> {
 #[cfg(test)]
 mod tests {
     use super::*;
+    use skilletjay::Slot;
 
     fn entry(slot: usize, name: &str) -> Entry {
         Entry { slot: Slot(slot), name: name.into(), file_type: b'S', length: 1 }
-    }
-
-    #[test]
-    fn slots_and_names_are_told_apart() {
-        assert_eq!(slot_number("#12"), Some(Slot(12)));
-        assert_eq!(slot_number("#99999999999999999999999"), Some(Slot(usize::MAX)));
-        assert_eq!([slot_number("12"), slot_number("#"), slot_number("#1 "), slot_number("#+1")], [None; 4]);
     }
 
     #[test]

@@ -20,13 +20,16 @@ sj reads and writes floppy images of Akai S900, S950 and S1000 samplers.
   sj program FILE                        whether a file is an S1000 program
   sj help refusals                       what every refusal means and what to do
 
-Names are padded with spaces to the disk's length. # and digits alone are a slot; a file with
-such a name is reached by its slot. Where no FILE is given, get takes the name and the type, and
-replaces a file that is there only with --force. -- ends the options.
+Names are padded with spaces to the disk's length. For get # and digits alone are a slot, and a
+file with such a name is reached by its slot; rm takes names alone. Where no FILE is given, get
+takes the name and the type, and replaces a file that is there only with --force. -- ends the
+options.
 
 An image is changed in a copy beside it, which then takes its place: a run that fails leaves the
 image as it was, and of two runs at once one waits for the other. An interrupted run may leave the
 copy, a hidden file .IMAGE.sj- and two numbers; the next run that changes the image removes it.
+A changed image is a new file: where it has more than one name (hard links), the others keep the
+old one.
 
 WAV files have one channel and 16 bits. S900 words have 12: unpack shifts them left by four, and
 pack refuses words whose low four bits aren't zero rather than lose them. pack takes number of
