@@ -2,6 +2,7 @@
 //! time.
 
 use crate::failure::Failure;
+use crate::progress;
 use crate::save::{self, Draft};
 use skilletjay::{BLOCK, HEAD, Image, Slot};
 use std::fs::{self, File, Metadata, OpenOptions};
@@ -128,7 +129,7 @@ fn lock(path: &PathBuf) -> Result<File, Failure> {
     let failed = |error| Failure::file(path, error);
     loop {
         let file = OpenOptions::new().read(true).write(true).open(path).map_err(failed)?;
-        file.lock().map_err(failed)?;
+        progress::lock(&file, path).map_err(failed)?;
         let (held, there) = (file.metadata().map_err(failed)?, fs::metadata(path).map_err(failed)?);
         if identity(&held) == identity(&there) {
             return Ok(file);

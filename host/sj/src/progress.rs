@@ -1,6 +1,10 @@
-//! How far a long run is: on a terminal, and only after a second.
+//! How far a long run is, and what it waits for: on a terminal, and only after a second.
 
-use std::io::{IsTerminal, Write, stderr};
+use crate::output;
+use std::fs::{File, TryLockError};
+use std::io::{self, IsTerminal, Write, stderr, stdout};
+use std::path::Path;
+use std::thread::sleep;
 use std::time::{Duration, Instant};
 
 const PATIENCE: Duration = Duration::from_secs(1);
@@ -11,6 +15,8 @@ pub struct Progress {
     done: usize,
     all: usize,
     terminal: bool,
+    /// Whether a line on standard output would stand beside the count.
+    shared: bool,
     start: Instant,
     told: Option<Instant>,
     shown: bool,
@@ -20,7 +26,7 @@ impl Progress {
     /// So many steps are to come.
     pub fn new(all: usize) -> Progress {
         let (terminal, start) = (stderr().is_terminal(), Instant::now());
-        Progress { done: 0, all, terminal, start, told: None, shown: false }
+        Progress { done: 0, all, terminal, shared: stdout().is_terminal(), start, told: None, shown: false }
     }
 
     /// One step is done.
@@ -34,7 +40,14 @@ impl Progress {
         }
     }
 
-    /// Clears the line before something else is told.
+    /// Makes room for a line on standard output; elsewhere than on the terminal it needs none.
+    pub fn before_line(&mut self) {
+        if self.shared {
+            self.clear();
+        }
+    }
+
+    /// Clears the count before something else is told on standard error.
     pub fn clear(&mut self) {
         if self.shown {
             self.shown = false;
@@ -47,4 +60,20 @@ impl Drop for Progress {
     fn drop(&mut self) {
         self.clear();
     }
+}
+
+/// Locks a file, and says so if that has to wait.
+pub fn lock(file: &File, path: &Path) -> io::Result<()> {
+    let start = Instant::now();
+    while stderr().is_terminal() && start.elapsed() < PATIENCE {
+        match file.try_lock() {
+            Ok(()) => return Ok(()),
+            Err(TryLockError::WouldBlock) => sleep(BETWEEN / 10),
+            Err(TryLockError::Error(error)) => return Err(error),
+        }
+    }
+    if stderr().is_terminal() {
+        output::warn(&format!("waiting for another run on {}", path.display()));
+    }
+    file.lock()
 }

@@ -17,7 +17,7 @@ pub fn run(arguments: &mut Arguments) -> Result<(), Failure> {
     for path in &paths {
         match line(path) {
             Ok(line) => {
-                progress.clear();
+                progress.before_line();
                 output::say(&line)?;
             }
             Err(failure) => {
