@@ -23,13 +23,15 @@ pub fn run(case: &mut Case, random: &mut Random) -> Result<(), Box<Disagreement>
         let disk = read(case.image()).ok();
         let (mut script, mut pool) = (Vec::new(), Vec::new());
         let calls = random.below(40);
-        for _ in 0..calls {
+        for _ in 0..=calls {
             let call = choose::call(layout.kind, disk.as_ref(), 6, random);
             script.extend(entry(&call, &mut pool, random));
         }
-        script.extend(random.bytes(ENTRY)[..random.below(ENTRY)].iter());
+        // The last entry is cut, so it is no call. Now and then there is a part for it all the same.
+        script.truncate(ENTRY * calls + random.below(ENTRY));
+        let parts = calls + usize::from(random.one_in(3));
         let length =
-            (PART * calls + random.below(PART)).saturating_sub(random.pick(&[0, 0, 0, 1, PART, 5 * PART]));
+            (PART * parts + random.below(PART)).saturating_sub(random.pick(&[0, 0, 0, 1, PART, 5 * PART]));
         case.call(&Call::Run { script, pool, output: choose::output(length, random) })?;
     }
     Ok(())
@@ -39,35 +41,10 @@ pub fn run(case: &mut Case, random: &mut Random) -> Result<(), Box<Disagreement>
 fn entry(call: &Call, pool: &mut Vec<u8>, random: &mut Random) -> Vec<u8> {
     let mut entry = random.bytes(ENTRY);
     let mut set = |at: usize, value: usize| entry[at..at + 4].copy_from_slice(&(value as u32).to_le_bytes());
-    let mut pooled = |bytes: &[u8]| {
-        pool.extend(bytes);
-        pool.len() - bytes.len()
-    };
-    let (operation, file_type) = match call {
-        // a script has no call for blocks
-        Call::List { slot } | Call::Blocks { slot, .. } => {
-            set(4, *slot);
-            (0, 0)
-        }
-        Call::Page { slot, offset, .. } => {
-            set(4, *slot);
-            set(8, *offset);
-            (1, 0)
-        }
-        Call::Find { name } | Call::Remove { name } => {
-            set(4, pooled(name));
-            set(8, name.len());
-            (if matches!(call, Call::Find { .. }) { 2 } else { 3 }, 0)
-        }
-        Call::Put { name, file_type, content } => {
-            set(4, pooled(name));
-            set(8, name.len());
-            set(12, pooled(content));
-            set(16, content.len());
-            (4, *file_type)
-        }
-        _ => (random.pick(&[0, 0, 0, 0, 0, 0, 0, 5, 255]), 0),
-    };
+    let (operation, numbers) = fields(call, pool, random);
+    for (number, at) in numbers.into_iter().zip([4, 8, 12, 16]) {
+        set(at, number);
+    }
     if random.one_in(100) {
         set(
             random.pick(&[4, 8, 12, 16]),
@@ -75,6 +52,25 @@ fn entry(call: &Call, pool: &mut Vec<u8>, random: &mut Random) -> Vec<u8> {
         );
     }
     entry[0] = operation;
-    entry[1] = file_type;
+    if let Call::Put { file_type, .. } = call {
+        entry[1] = *file_type;
+    }
     entry
+}
+
+/// An entry's first byte, and its numbers from offset 4 on.
+fn fields(call: &Call, pool: &mut Vec<u8>, random: &mut Random) -> (u8, Vec<usize>) {
+    let mut pooled = |bytes: &[u8]| {
+        pool.extend(bytes);
+        [pool.len() - bytes.len(), bytes.len()]
+    };
+    match call {
+        // a script has no call for blocks
+        Call::List { slot } | Call::Blocks { slot, .. } => (0, vec![*slot]),
+        Call::Page { slot, offset, .. } => (1, vec![*slot, *offset]),
+        Call::Find { name } => (2, pooled(name).to_vec()),
+        Call::Remove { name } => (3, pooled(name).to_vec()),
+        Call::Put { name, content, .. } => (4, [pooled(name), pooled(content)].concat()),
+        _ => (random.pick(&[0, 0, 0, 0, 0, 0, 0, 5, 255]), Vec::new()),
+    }
 }
