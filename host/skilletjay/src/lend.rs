@@ -1,9 +1,10 @@
 //! The C functions on Rust slices. Here and in `lend_files` is all unsafe code of the binding.
 //!
-//! Each function lends its slices for the time of the call. A mutable slice can't overlap another in Rust; two
-//! shared ones could, so names and scripts are copied before they are lent.
+//! Each function lends its slices for the time of the call, and none but them, so that who compares them afterwards
+//! sees what the library did. A mutable slice can't overlap another in Rust. Two shared ones can; then one is copied.
 
 use crate::raw::{self, Checked, Counted, Done, Found, Listed, Paged};
+use std::borrow::Cow;
 use std::ptr;
 
 pub use crate::lend_files::*;
@@ -15,6 +16,14 @@ pub(crate) fn lent<T>(slice: &[T]) -> *const T {
 
 pub(crate) fn lent_mut<T>(slice: &mut [T]) -> *mut T {
     if slice.is_empty() { ptr::null_mut() } else { slice.as_mut_ptr() }
+}
+
+/// A slice that lies apart from another: itself, or a copy if the two overlap.
+pub(crate) fn apart<'a, T: Clone, U>(slice: &'a [T], other: &[U]) -> Cow<'a, [T]> {
+    let (one, other) = (slice.as_ptr_range(), other.as_ptr_range());
+    let before = one.end.cast::<u8>() <= other.start.cast();
+    let after = other.end.cast::<u8>() <= one.start.cast();
+    if before || after { Cow::Borrowed(slice) } else { Cow::Owned(slice.to_vec()) }
 }
 
 /// `sj_check`.
@@ -31,8 +40,8 @@ pub fn list(image: &[u8], slot: usize) -> Listed {
 
 /// `sj_find`.
 pub fn find(image: &[u8], name: &[u8]) -> Found {
-    let name = name.to_vec();
-    // SAFETY: image and name are readable for their lengths; the name is a copy, so they lie apart.
+    let name = apart(name, image);
+    // SAFETY: image and name are readable for their lengths and lie apart.
     unsafe { raw::sj_find(lent(image), image.len(), lent(&name), name.len()) }
 }
 
@@ -50,28 +59,27 @@ pub fn blocks(image: &[u8], slot: usize, output: &mut [u16]) -> Counted {
 
 /// `sj_put`.
 pub fn put(image: &mut [u8], name: &[u8], file_type: u8, content: &[u8]) -> Found {
-    let name = name.to_vec();
+    let name = apart(name, content);
     let (at, length) = (lent_mut(image), image.len());
     // SAFETY: the image is writable, name and content are readable for their lengths; the image is a mutable
-    // slice and the name a copy, so all three lie apart.
+    // slice, and name and content lie apart, so all three do.
     unsafe { raw::sj_put(at, length, lent(&name), name.len(), file_type, lent(content), content.len()) }
 }
 
 /// `sj_remove`.
 pub fn remove(image: &mut [u8], name: &[u8]) -> Done {
-    let name = name.to_vec();
     // SAFETY: the image is writable and the name readable for its length; a mutable slice lies apart.
-    unsafe { raw::sj_remove(lent_mut(image), image.len(), lent(&name), name.len()) }
+    unsafe { raw::sj_remove(lent_mut(image), image.len(), lent(name), name.len()) }
 }
 
 /// `sj_run`.
 pub fn run(image: &mut [u8], script: &[u8], pool: &[u8], output: &mut [u8]) -> usize {
-    let script = script.to_vec();
+    let script = apart(script, pool);
     let (image_at, image_length) = (lent_mut(image), image.len());
     let (output_at, output_length) = (lent_mut(output), output.len());
     let (script_at, pool_at) = (lent(&script), lent(pool));
     // SAFETY: image and output are writable, script and pool are readable for their lengths; image and output are
-    // mutable slices and the script is a copy, so all four lie apart.
+    // mutable slices, and script and pool lie apart, so all four do.
     unsafe {
         raw::sj_run(
             image_at,
@@ -83,5 +91,48 @@ pub fn run(image: &mut [u8], script: &[u8], pool: &[u8], output: &mut [u8]) -> u
             output_at,
             output_length,
         )
+    }
+}
+
+#[cfg(test)]
+mod tests {
+    use super::*;
+
+    /// Only what overlaps is copied; slices that touch, or are empty, lie apart.
+    #[test]
+    fn what_overlaps_is_copied() {
+        let bytes = [1u8, 2, 3, 4, 5, 6];
+        let copied = |one: &[u8], other: &[u8]| match apart(one, other) {
+            Cow::Borrowed(same) => {
+                assert!(ptr::eq(same, one));
+                false
+            }
+            Cow::Owned(copy) => {
+                assert_eq!(copy, one);
+                true
+            }
+        };
+        for (one, other) in
+            [(0..2, 2..6), (2..6, 0..2), (3..3, 4..6), (0..0, 0..0), (6..6, 0..6), (0..0, 0..6)]
+        {
+            assert!(!copied(&bytes[one], &bytes[other]));
+        }
+        for (one, other) in [(0..3, 2..6), (2..6, 0..3), (0..6, 0..6), (1..2, 0..6), (0..6, 1..2)] {
+            assert!(copied(&bytes[one], &bytes[other]));
+        }
+    }
+
+    #[test]
+    fn overlapping_names_and_scripts_may_be_lent() {
+        let mut image = vec![0; 819_200];
+        let content = b"A         and more";
+        assert_eq!(put(&mut image, &content[..10], b'S', content), Found::default());
+        assert_eq!(find(&image, &image[..10]), Found::default());
+        let mut pool = [0; 30]; // a find of the name that follows its entry
+        pool[..20].copy_from_slice(&[2, 0, 0, 0, 20, 0, 0, 0, 10, 0, 0, 0, 0, 0, 0, 0, 0, 0, 0, 0]);
+        pool[20..].copy_from_slice(&content[..10]);
+        let mut output = [9; 1044];
+        assert_eq!(run(&mut image, &pool[..20], &pool, &mut output), 1);
+        assert_eq!(output[..20], [0; 20]);
     }
 }

@@ -1,6 +1,6 @@
 //! The C functions for sample and program files on Rust slices.
 
-use crate::lend::{lent, lent_mut};
+use crate::lend::{apart, lent, lent_mut};
 use crate::raw::{self, Counted};
 
 /// A function that unpacks a sample's words.
@@ -14,10 +14,11 @@ fn unpack(with: Unpack, file: &[u8], words: &mut [i16]) -> Counted {
 }
 
 fn pack(with: Pack, header: &[u8], words: &[i16], output: &mut [u8]) -> Counted {
+    let header = apart(header, words); // a caller may see words as bytes, by means of its own
     let (at, length) = (lent_mut(output), output.len());
     // SAFETY: header and words are readable and the output is writable for their lengths; the output is a
-    // mutable slice, and safe code can't see words as bytes of a header, so all three lie apart.
-    unsafe { with(lent(header), header.len(), lent(words), words.len(), at, length) }
+    // mutable slice, and header and words lie apart, so all three do.
+    unsafe { with(lent(&header), header.len(), lent(words), words.len(), at, length) }
 }
 
 /// `sj_s900_unpack`.
