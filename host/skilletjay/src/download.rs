@@ -1,6 +1,7 @@
 //! A file page by page.
 
 use crate::{Image, Refusal, Slot};
+use std::iter::FusedIterator;
 
 /// Bytes of a page, unless asked otherwise.
 const PAGE: usize = 64 * 1024;
@@ -37,9 +38,10 @@ impl<'a> Download<'a> {
         Download { image: Image::new(image), slot, offset: 0, page: PAGE, complete: false, refused: false }
     }
 
-    /// The same with pages of another length, at least 1.
+    /// The same with pages of another length: at least 1, and no more than the image has, as no file is longer.
     pub fn pages_of(self, bytes: usize) -> Download<'a> {
-        Download { page: bytes.max(1), ..self }
+        let most = self.image.bytes().len().max(1);
+        Download { page: bytes.clamp(1, most), ..self }
     }
 
     /// Bytes given so far.
@@ -76,6 +78,8 @@ impl Iterator for Download<'_> {
     }
 }
 
+impl FusedIterator for Download<'_> {}
+
 #[cfg(test)]
 mod tests {
     use super::*;
@@ -93,6 +97,20 @@ mod tests {
         }
     }
 
+    /// A page is no longer than an image, so that it needs no more memory.
+    #[test]
+    fn huge_pages_are_cut_to_the_image() {
+        let mut image = Image::new(vec![0; 819_200]);
+        let slot = image.put("A         ", b'S', &[1; 3000]).expect("room");
+        for length in [819_201, 1 << 40, usize::MAX] {
+            let mut download = image.download(slot).pages_of(length);
+            let page = download.next().expect("a page").expect("accepted");
+            assert!(page == [1; 3000] && page.capacity() <= 819_200 && download.is_complete());
+        }
+        let refused = Image::new([]).download(slot).pages_of(usize::MAX).next();
+        assert!(refused.is_some_and(|page| page.is_err_and(|refusal| refusal.number() == 1)));
+    }
+
     #[test]
     fn an_early_stop_and_a_refusal_are_not_complete() {
         let mut image = Image::new(vec![0; 819_200]);
@@ -101,6 +119,8 @@ mod tests {
         assert!(download.next().is_some() && !download.is_complete());
         let mut missing = image.download(Slot(5));
         assert!(missing.next().is_some_and(|page| page.is_err_and(|refusal| refusal.number() == 10)));
-        assert!(missing.next().is_none() && !missing.is_complete());
+        assert!(missing.next().is_none() && missing.next().is_none() && !missing.is_complete());
+        let fused: &mut dyn FusedIterator<Item = Result<Vec<u8>, Refusal>> = &mut missing;
+        assert!(fused.next().is_none());
     }
 }

@@ -215,6 +215,7 @@ impl<B: AsRef<[u8]>> Image<B> {
         // No file is as long as its image. One page is one check, and zeros that stay untouched cost no memory.
         let mut content = vec![0; self.bytes().len()];
         let paged = self.page(slot, 0, &mut content)?;
+        debug_assert!(paged.end, "a page with room for the whole image reaches the file's end");
         content.truncate(paged.count);
         content.shrink_to_fit();
         Ok(content)
