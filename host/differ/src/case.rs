@@ -5,9 +5,35 @@ use crate::{disks, programs, samples, scripts};
 use model::random::Random;
 use std::fmt;
 
+/// What a seed decides: any case, or the values of every byte of sample headers and of a program.
+#[derive(Clone, Copy, Debug, PartialEq, Eq)]
+pub enum Sort {
+    /// [`run`]
+    Any,
+    /// [`run_every_byte`]
+    EveryByte,
+}
+
+impl Sort {
+    /// The option of `differ` that runs such a case.
+    pub fn option(self) -> &'static str {
+        match self {
+            Sort::Any => "--seed",
+            Sort::EveryByte => "--every-byte",
+        }
+    }
+}
+
+/// The line that runs a case again, to be typed in host/.
+pub fn again(sort: Sort, seed: u64) -> String {
+    format!("cargo run --offline --quiet -p differ -- {} {seed}", sort.option())
+}
+
 /// Where library and model part.
 #[derive(Clone, Debug)]
 pub struct Disagreement {
+    /// What the seed decides.
+    pub sort: Sort,
     /// Runs the case again.
     pub seed: u64,
     /// What the case was about.
@@ -25,7 +51,8 @@ impl fmt::Display for Disagreement {
         writeln!(to, "library and model disagree")?;
         writeln!(to, "  seed {}: {}", self.seed, self.about)?;
         writeln!(to, "  call {}: {}", self.turn, self.call)?;
-        write!(to, "  {}", self.difference)
+        writeln!(to, "  {}", self.difference)?;
+        write!(to, "  again, in host/: {}", again(self.sort, self.seed))
     }
 }
 
@@ -50,6 +77,7 @@ pub type Ran = Result<Tally, Box<Disagreement>>;
 
 /// An image lent to the library and its twin lent to the model, with margins, and the calls so far.
 pub struct Case {
+    sort: Sort,
     seed: u64,
     about: String,
     tally: Tally,
@@ -57,21 +85,21 @@ pub struct Case {
     model: Vec<u8>,
 }
 
-/// Tells the seed of a case that ended in a panic.
-struct Panicked(u64);
+/// Tells how to run a case again that ended in a panic.
+struct Panicked(Sort, u64);
 
 impl Drop for Panicked {
     fn drop(&mut self) {
         if std::thread::panicking() {
-            println!("a panic in the case of seed {}", self.0);
+            println!("a panic in a case; again, in host/: {}", again(self.0, self.1));
         }
     }
 }
 
 /// Runs the case of a seed.
 pub fn run(seed: u64) -> Ran {
-    let _panicked = Panicked(seed);
-    let (mut case, mut random) = (Case::new(seed), Random::new(seed));
+    let _panicked = Panicked(Sort::Any, seed);
+    let (mut case, mut random) = (Case::new(Sort::Any, seed), Random::new(seed));
     match random.below(13) {
         0 | 1 => disks::scattered(&mut case, &mut random)?,
         2 => disks::near_full(&mut case, &mut random)?,
@@ -91,15 +119,17 @@ pub fn run(seed: u64) -> Ran {
 
 /// Tries every value of every byte of sample headers and of a program.
 pub fn run_every_byte(seed: u64) -> Ran {
-    let (mut case, mut random) = (Case::new(seed), Random::new(seed));
+    let _panicked = Panicked(Sort::EveryByte, seed);
+    let (mut case, mut random) = (Case::new(Sort::EveryByte, seed), Random::new(seed));
     samples::every_byte(&mut case, &mut random)?;
     programs::every_byte(&mut case, &mut random)?;
     Ok(case.tally)
 }
 
 impl Case {
-    fn new(seed: u64) -> Case {
-        Case { seed, about: String::new(), tally: Tally::default(), library: Vec::new(), model: Vec::new() }
+    fn new(sort: Sort, seed: u64) -> Case {
+        let (about, tally) = (String::new(), Tally::default());
+        Case { sort, seed, about, tally, library: Vec::new(), model: Vec::new() }
     }
 
     /// What the case is about, for a disagreement's report.
@@ -152,8 +182,8 @@ impl Case {
             self.tally.0[model.given.refusal() as usize] += 1;
             return Ok(());
         };
-        let (seed, about, turn) = (self.seed, self.about.clone(), self.tally.calls());
-        Err(Box::new(Disagreement { seed, about, turn, call: call.to_string(), difference }))
+        let (sort, seed, about, turn) = (self.sort, self.seed, self.about.clone(), self.tally.calls());
+        Err(Box::new(Disagreement { sort, seed, about, turn, call: call.to_string(), difference }))
     }
 }
 

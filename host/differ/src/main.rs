@@ -1,19 +1,21 @@
-//! `differ`: runs cases on fresh seeds for some seconds, or the case of one seed again.
+//! `differ`: runs cases on fresh seeds for some seconds, or one case again.
 #![forbid(unsafe_code)]
 
-use differ::case::{self, Tally};
+use differ::case::{self, Ran, Tally};
 use std::process::ExitCode;
 use std::time::{Duration, Instant, SystemTime, UNIX_EPOCH};
 
 const USAGE: &str = "usage: differ --seconds N    cases on fresh seeds for N seconds
-       differ --seed S       the case of seed S again";
+       differ --seed S       the case of seed S again
+       differ --every-byte S every value of every byte of sample headers and a program, again from seed S";
 
 fn main() -> ExitCode {
     let arguments: Vec<String> = std::env::args().skip(1).collect();
     let number = arguments.get(1).and_then(|text| text.parse().ok());
     match (arguments.first().map(String::as_str), number) {
         (Some("--seconds"), Some(seconds)) => fresh(Duration::from_secs(seconds)),
-        (Some("--seed"), Some(seed)) => again(seed),
+        (Some("--seed"), Some(seed)) => again(seed, case::run),
+        (Some("--every-byte"), Some(seed)) => again(seed, case::run_every_byte),
         _ => {
             eprintln!("{USAGE}");
             ExitCode::from(2)
@@ -21,8 +23,8 @@ fn main() -> ExitCode {
     }
 }
 
-fn again(seed: u64) -> ExitCode {
-    match case::run(seed) {
+fn again(seed: u64, run: impl FnOnce(u64) -> Ran) -> ExitCode {
+    match run(seed) {
         Ok(tally) => {
             println!("seed {seed}: {} calls, library and model agree", tally.calls());
             ExitCode::SUCCESS
@@ -43,7 +45,6 @@ fn fresh(time: Duration) -> ExitCode {
             Ok(more) => tally.add(&more),
             Err(disagreement) => {
                 println!("{disagreement}");
-                println!("  again: differ --seed {}", disagreement.seed);
                 return ExitCode::FAILURE;
             }
         }
