@@ -47,6 +47,12 @@ fn other_samples_are_refused() {
     fine[44..].copy_from_slice(&[16, 0, 32, 0, 33, 0, 0, 0]);
     folder.write("fine.wav", &fine);
     folder.sj(&["pack", "fine.wav", "--like", "s900", "-o", "b"]).failed(1, &["word 2", "low four"]);
+    let mut fast = fine.clone();
+    fast[24..28].copy_from_slice(&96_000u32.to_le_bytes());
+    folder.write("fast.wav", &fast);
+    folder
+        .sj(&["pack", "fast.wav", "--like", "s1000", "-o", "b"])
+        .failed(1, &["96000", "Resample", "65,535"]);
     fine[22] = 2;
     folder.write("stereo.wav", &fine);
     folder.sj(&["pack", "stereo.wav", "--like", "s900", "-o", "b"]).failed(1, &["2 channels"]);
@@ -57,7 +63,7 @@ fn other_samples_are_refused() {
     folder.sj(&["unpack", "s900"]).failed(2, &["-o is needed"]);
     folder.sj(&["unpack", "none", "-o", "b.wav"]).failed(2, &["none"]);
     folder.sj(&["pack", "a.wav", "-o", "b"]).failed(2, &["--like is needed"]);
-    assert_eq!(folder.names(), ["a.wav", "bad", "fine.wav", "s1000", "s900", "stereo.wav"]);
+    assert_eq!(folder.names(), ["a.wav", "bad", "fast.wav", "fine.wav", "s1000", "s900", "stereo.wav"]);
 }
 
 #[test]

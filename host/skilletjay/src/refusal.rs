@@ -45,7 +45,7 @@ const ROWS: [Row; 21] = [
         2,
         Place::None,
         "the directory is of no known kind",
-        "Only S900, S950 and S1000 disks are read; all 64 slots must have the kind's identity.",
+        "Give an image of an S900, S950 or S1000 disk: all 64 slots must have the identity of one kind.",
     ),
     (
         3,
@@ -94,7 +94,8 @@ const ROWS: [Row; 21] = [
         11,
         Place::None,
         "the name or the type isn't legal on this disk",
-        "S900: 10 characters of ASCII, type A to Z. S1000: 12 of 0-9, A-Z, space and # + - ., type a to z.",
+        "Give an S900 disk 10 characters of ASCII and a type A to Z; give an S1000 disk 12 of 0-9, A-Z, space and \
+         # + - . and a type a to z.",
     ),
     (
         12,
@@ -102,7 +103,7 @@ const ROWS: [Row; 21] = [
         "the name is already used",
         "Take another name, or remove the file that has it first; types don't tell names apart.",
     ),
-    (13, Place::None, "the content is empty", "A file has at least one byte."),
+    (13, Place::None, "the content is empty", "Give a content of at least one byte."),
     (14, Place::None, "all 64 slots are used", "Remove a file first, or take another disk."),
     (
         15,
@@ -110,7 +111,12 @@ const ROWS: [Row; 21] = [
         "the content needs more blocks than are free",
         "Remove files first, or take another disk.",
     ),
-    (16, Place::None, "the content is over 16,777,215 bytes", "No disk holds so long a file."),
+    (
+        16,
+        Place::None,
+        "the content is over 16,777,215 bytes",
+        "Cut the content into files that a disk holds, of 1,595 blocks at most.",
+    ),
     (
         17,
         Place::None,
@@ -121,8 +127,8 @@ const ROWS: [Row; 21] = [
         18,
         Place::Offset,
         "the sample's header or length is refused",
-        "The place is the offset of the header's first wrong byte, or of the number of words if that or the length \
-         is wrong.",
+        "Mend the header at that offset, or take another sample's. At the number of words (16 on an S900, 26 on an \
+         S1000) give a length that fits it, and an even number on an S900. At 0 give a whole header.",
     ),
     (
         19,
@@ -134,7 +140,8 @@ const ROWS: [Row; 21] = [
         20,
         Place::Offset,
         "the program file is refused",
-        "The place is the offset of the first wrong row, or 42 if the number of keygroups or the length is wrong.",
+        "Set the row at that offset to a value of its range. At 42 give 1 to 99 keygroups, of 150 bytes each after \
+         a header of 150. At 0 give a whole header.",
     ),
     (21, Place::None, "the output is shorter than what is due", "Lend a longer output."),
 ];
@@ -226,6 +233,18 @@ mod tests {
         assert_eq!(numbers, (1..=21).collect::<Vec<u32>>());
         for refusal in Refusal::all() {
             assert!(!refusal.words().ends_with('.') && refusal.advice().ends_with('.'), "{refusal}");
+        }
+    }
+
+    /// An advice is something to do: one of its clauses begins with a verb.
+    #[test]
+    fn every_advice_says_what_to_do() {
+        let verbs: Vec<&str> =
+            "read rename remove list give take cut page mend make set lend".split(' ').collect();
+        for refusal in Refusal::all() {
+            let advice = refusal.advice().to_lowercase();
+            let mut first = advice.split(['.', ';']).filter_map(|clause| clause.split_whitespace().next());
+            assert!(first.any(|word| verbs.contains(&word)), "{refusal}: {advice}");
         }
     }
 
