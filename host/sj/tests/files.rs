@@ -23,17 +23,51 @@ fn samples_go_to_wav_and_back() {
     assert_eq!(folder.names(), ["a", "a.wav", "back"]);
 }
 
+/// A sample of 500 words whose markers, at these offsets, are as given.
+fn marked(kind: Kind, markers: &[(usize, u32)], random: &mut Random) -> Vec<u8> {
+    let mut file = files::sample(kind, 500, random);
+    for &(at, value) in markers {
+        file[at..at + 4].copy_from_slice(&value.to_le_bytes());
+    }
+    file
+}
+
+/// Number of words, end, start, and on an S900 the loop length, all past the new end; the rest of the header stays.
 #[test]
 fn a_shorter_wav_cuts_the_markers() {
     let (folder, mut random) = (Folder::new("shorter"), Random::new(2));
-    for kind in [Kind::S900, Kind::S1000] {
-        for (name, words) in [("long", 500), ("short", 20)] {
-            folder.write(name, &files::sample(kind, words, &mut random));
-            folder.sj(&["unpack", name, "-o", &format!("{name}.wav")]).done();
-        }
+    for (kind, header, count, markers, rate) in [
+        (Kind::S900, 60, 16, &[(28, 400), (32, 300), (36, 350)][..], 20),
+        (Kind::S1000, 150, 26, &[(34, 400), (30, 300)], 138),
+    ] {
+        let long = marked(kind, markers, &mut random);
+        folder.write("long", &long);
+        folder.write("short", &files::sample(kind, 20, &mut random));
+        folder.sj(&["unpack", "short", "-o", "short.wav"]).done();
         folder.sj(&["pack", "short.wav", "--like", "long", "-o", "new"]).done();
         folder.sj(&["unpack", "new", "-o", "new.wav"]).done();
         assert_eq!(folder.read("new.wav"), folder.read("short.wav"));
+        let mut expected = long[..header].to_vec();
+        expected[rate..rate + 2].copy_from_slice(&folder.read("short")[rate..rate + 2]);
+        for at in markers.iter().map(|marker| marker.0).chain([count]) {
+            expected[at..at + 4].copy_from_slice(&20u32.to_le_bytes());
+        }
+        assert_eq!(folder.read("new")[..header], expected);
+    }
+}
+
+/// Markers before the new end stay where they are; an end that was the last word's is so again.
+#[test]
+fn a_wav_keeps_the_markers_that_fit() {
+    let (folder, mut random) = (Folder::new("fit"), Random::new(5));
+    folder.write("more", &files::sample(Kind::S900, 600, &mut random));
+    folder.sj(&["unpack", "more", "-o", "more.wav"]).done();
+    for (end, new_end) in [(400, 400), (500, 600)] {
+        folder.write("like", &marked(Kind::S900, &[(28, end), (32, 300), (36, 350)], &mut random));
+        folder.sj(&["pack", "more.wav", "--like", "like", "-o", "new"]).done();
+        let new = folder.read("new");
+        let four = |at: usize| u32::from_le_bytes([new[at], new[at + 1], new[at + 2], new[at + 3]]);
+        assert_eq!([four(16), four(28), four(32), four(36)], [600, new_end, 300, 350]);
     }
 }
 

@@ -33,7 +33,8 @@ old one.
 
 WAV files have one channel and 16 bits. S900 words have 12: unpack shifts them left by four, and
 pack refuses words whose low four bits aren't zero rather than lose them. pack takes number of
-words and rate from the WAV file; markers past the new end are cut to it.
+words and rate from the WAV file, and cuts end, start and an S900's loop length to the number; an
+S1000's loops are carried as they are.
 
 Exit status: 0 done, 1 refused, 2 wrong usage or a file that can't be read or written.
 ";

@@ -67,7 +67,8 @@ fn read_sample(path: &Path) -> Result<(Kind, Vec<u8>, Vec<i16>), Failure> {
     Ok((kind, file, words))
 }
 
-/// The header for a WAV's words: number and rate are the WAV's, and no marker stays past the end.
+/// The header for a WAV's words: number and rate are the WAV's, and none of the markers that have a rule stays past the
+/// end. The loops of an S1000 have none; they are carried, as the library carries them.
 fn header_for(kind: Kind, like: &[u8], name: &str, wav: &Wav) -> Result<Vec<u8>, Failure> {
     let Fields { rate, count, start, end, loop_length } = fields(kind);
     let Ok(new_rate) = u16::try_from(wav.rate) else {
