@@ -100,6 +100,19 @@ fn other_samples_are_refused() {
     assert_eq!(folder.names(), ["a.wav", "bad", "fast.wav", "fine.wav", "s1000", "s900", "stereo.wav"]);
 }
 
+/// Its data chunk is whole, but nobody reads so much.
+#[test]
+fn a_wav_that_is_too_long_is_told_so() {
+    let (folder, mut random) = (Folder::new("long-wav"), Random::new(6));
+    folder.write("s", &files::sample(Kind::S1000, 4, &mut random));
+    folder.sj(&["unpack", "s", "-o", "a.wav"]).done();
+    let mut wav = folder.read("a.wav");
+    wav[40..44].copy_from_slice(&20_000_000u32.to_le_bytes());
+    wav.resize(44 + 20_000_000, 0);
+    folder.write("a.wav", &wav);
+    folder.sj(&["pack", "a.wav", "--like", "s", "-o", "b"]).failed(1, &["longer than 16,777,215", "Cut it"]);
+}
+
 #[test]
 fn programs_are_checked() {
     let (folder, mut random) = (Folder::new("program"), Random::new(4));

@@ -50,13 +50,24 @@ pub fn pack(arguments: &mut Arguments) -> Result<(), Failure> {
     let path = arguments.path("the WAV file")?;
     arguments.end()?;
     let name = path.display().to_string();
-    let wav = Wav::read(&name, &image_file::read_up_to(&path, MOST)?)?;
+    let wav = read_wav(&name, &path)?;
     let (kind, file, _) = read_sample(&like)?;
     let header = header_for(kind, &file[..sample::header_length(kind)], &name, &wav)?;
     let words = if kind == Kind::S900 { shifted_back(&name, &wav.words)? } else { wav.words };
     let packed =
         sample::file_of(kind, &header, &words).map_err(|refusal| Failure::refused(&name, refusal))?;
     save::save(&to, &packed)
+}
+
+/// A WAV file that isn't longer than any sample's.
+fn read_wav(name: &str, path: &Path) -> Result<Wav, Failure> {
+    let file = image_file::read_up_to(path, MOST)?;
+    if file.len() as u64 > MOST {
+        return Err(Failure::Refused(format!(
+            "{name}: it is longer than 16,777,215 bytes.\nCut it to what a disk holds, 1,595 blocks at most."
+        )));
+    }
+    Wav::read(name, &file)
 }
 
 /// A sample file that is accepted, and its words.
