@@ -4,7 +4,7 @@
 use crate::failure::Failure;
 use crate::progress;
 use crate::save::{self, Draft};
-use skilletjay::{BLOCK, HEAD, Image, Slot};
+use skilletjay::{BLOCK, HEAD, Image};
 use std::fs::{self, File, Metadata, OpenOptions};
 use std::io::Read;
 use std::os::unix::fs::{FileExt, MetadataExt};
@@ -78,14 +78,12 @@ impl Opened {
         Image::new(&self.bytes)
     }
 
-    /// Reads the blocks of a slot's file to their places, neighbours at once. The file is the one that was opened, also
-    /// where another run has put a new image in its place.
-    pub fn fetch(&mut self, slot: Slot) -> Result<(), Failure> {
+    /// Reads blocks to their places, neighbours at once. The file is the one that was opened, also where another run has
+    /// put a new image in its place.
+    pub fn fetch(&mut self, blocks: &[u16]) -> Result<(), Failure> {
         if self.whole {
             return Ok(());
         }
-        let blocks =
-            self.image().blocks(slot).map_err(|refusal| Failure::refused(self.path.display(), refusal))?;
         for run in blocks.chunk_by(|one, next| one + 1 == *next) {
             let at = BLOCK * usize::from(run[0]);
             let part = &mut self.bytes[at..at + BLOCK * run.len()];
@@ -144,6 +142,7 @@ mod tests {
     use model::layout::LAYOUTS;
     use model::maker::{self, Plan};
     use model::random::Random;
+    use skilletjay::Slot;
 
     /// What is read of an image whose every byte that no rule reads is noise: its head, and the file's blocks.
     #[test]
@@ -156,7 +155,8 @@ mod tests {
             let disk = disk::read(&image).expect("accepted");
             for (slot, file) in disk.files.iter().enumerate() {
                 let mut opened = Opened::new(&path).expect("opened");
-                assert_eq!(opened.fetch(Slot(slot)).is_ok(), file.is_some());
+                let blocks = opened.image().blocks(Slot(slot)).unwrap_or_default();
+                opened.fetch(&blocks).expect("read");
                 let mut expected = vec![0; image.len()];
                 let blocks = file.iter().flat_map(|file| &file.chain).map(|&block| BLOCK * block);
                 for at in (0..HEAD).step_by(BLOCK).chain(blocks) {

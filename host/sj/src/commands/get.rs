@@ -38,17 +38,18 @@ fn get_one(path: &Path, which: &str, to: Option<OsString>, force: bool) -> Resul
         Some(slot) => slot,
         None => image.find(kind.padded(which)).map_err(refused)?,
     };
-    let entry = image.list(slot).map_err(refused)?;
+    let blocks = image.blocks(slot).map_err(refused)?;
     if to.as_deref() == Some(OsStr::new("-")) {
-        opened.fetch(slot)?;
+        opened.fetch(&blocks)?;
         return output::write(&opened.image().read(slot).map_err(refused)?);
     }
+    let entry = image.list(slot).map_err(refused)?;
     let (to, replace) = match to {
         Some(to) => (PathBuf::from(to), true),
         None => (PathBuf::from(file_name(&entry)), force),
     };
     free_to_write(path, &to, replace)?;
-    opened.fetch(slot)?;
+    opened.fetch(&blocks)?;
     download(path, opened.image(), &entry, &to)
 }
 
