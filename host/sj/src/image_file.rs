@@ -45,10 +45,10 @@ pub fn read_head(path: &Path) -> Result<Image, Failure> {
 /// other file's content may be taken from it.
 ///
 /// The library's answers are those on the whole image: the length and the first 5,120 bytes decide the check
-/// (`head-decides` in rules/specs/Head.antt), the list of a slot, the slot of a name and a file's blocks (`list-enough`,
-/// `find-enough` and `blocks-enough` in locate/specs/Enough.antt), and with these blocks the file's pages
-/// (`page-enough` there). Zeros that nobody reads cost no memory. What is no plain file, or not as long as an image,
-/// is read as [`read`] does.
+/// (`head-decides` in rules/specs/Head.antt), the list of a slot, the slot of a name and a file's blocks
+/// (`list-enough`, `find-enough` and `blocks-enough` in locate/specs/Enough.antt), and with these blocks the file's
+/// pages (`page-enough` there). Zeros that nobody reads cost no memory. What is no plain file, or not as long as an
+/// image, is read as [`read`] does.
 pub struct Opened {
     path: PathBuf,
     file: File,
@@ -78,8 +78,8 @@ impl Opened {
         Image::new(&self.bytes)
     }
 
-    /// Reads blocks to their places, neighbours at once. The file is the one that was opened, also where another run has
-    /// put a new image in its place.
+    /// Reads blocks to their places, neighbours at once. The file is the one that was opened, also where another run
+    /// has put a new image in its place.
     pub fn fetch(&mut self, blocks: &[u16]) -> Result<(), Failure> {
         if self.whole {
             return Ok(());

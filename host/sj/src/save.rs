@@ -26,8 +26,8 @@ impl Draft {
         Draft::begin(path, 0o666)
     }
 
-    /// Begins a file that takes another's place, with its mode and if possible its owner. Before it has them nobody else
-    /// may read it.
+    /// Begins a file that takes another's place, with its mode and if possible its owner. Before it has them nobody
+    /// else may read it.
     pub fn replacing(path: &Path, old: &Metadata) -> Result<Draft, Failure> {
         let draft = Draft::begin(path, 0o600)?;
         let _ = fchown(&draft.file, Some(old.uid()), Some(old.gid())); // only root may give files away
@@ -58,7 +58,8 @@ impl Draft {
         self.file.write_all(bytes).map_err(|error| Failure::file(&self.at, error))
     }
 
-    /// Puts it under its final name. After the rename the file is in place, so that all that can still fail is a message.
+    /// Puts it under its final name. Once it is renamed it is in place: a sync of the folder that fails then is told,
+    /// and is no failure of the run.
     pub fn keep(mut self) -> Result<(), Failure> {
         self.file.sync_all().map_err(|error| Failure::file(&self.at, error))?;
         fs::rename(&self.at, &self.path).map_err(|error| Failure::file(&self.path, error))?;
@@ -94,8 +95,8 @@ fn folder_of(path: &Path) -> &Path {
 }
 
 fn open_folder(folder: &Path) -> Result<File, Failure> {
-    let told = |error| Failure::File(format!("the folder {}, to be synced: {error}", folder.display()));
-    File::open(folder).map_err(told)
+    let folder_is = |error| format!("the folder {} can't be opened to sync it: {error}", folder.display());
+    File::open(folder).map_err(|error| Failure::File(folder_is(error)))
 }
 
 /// A hidden name in the same folder, so that the rename stays on one file system.

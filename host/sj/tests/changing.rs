@@ -130,7 +130,7 @@ fn a_folder_that_cant_be_synced_is_refused_first() {
     let ran = by_nobody(&folder, &["put", "a.img", "one", "--name", "A", "--type", "S"]);
     mode(".", 0o755);
     let Some(ran) = ran else { return println!("skipped: nobody can't run {}", env!("CARGO_BIN_EXE_sj")) };
-    ran.failed(2, &["the folder", "to be synced"]);
+    ran.failed(2, &["the folder", "to sync it"]);
     assert!(folder.read("a.img") == image);
     assert_eq!(folder.names(), ["a.img", "one"]);
 }

@@ -84,7 +84,8 @@ fn header_for(kind: Kind, like: &[u8], name: &str, wav: &Wav) -> Result<Vec<u8>,
     let Fields { rate, count, start, end, loop_length } = fields(kind);
     let Ok(new_rate) = u16::try_from(wav.rate) else {
         return Err(Failure::Refused(format!(
-            "{name}: a rate of {} doesn't fit a sample's header.\nResample the WAV file to 65,535 words a second or less.",
+            "{name}: a rate of {} doesn't fit a sample's header.\n\
+             Resample the WAV file to 65,535 words a second or less.",
             wav.rate
         )));
     };
