@@ -28,8 +28,9 @@ options.
 An image is changed in a copy beside it, which then takes its place: a run that fails leaves the
 image as it was, and of two runs at once one waits for the other. An interrupted run may leave the
 copy, a hidden file .IMAGE.sj- and two numbers; the next run that changes the image removes it.
-A changed image is a new file: where it has more than one name (hard links), the others keep the
-old one.
+Files that are copied out are written in the same way; what an interrupted get left may be removed
+by hand. A changed image is a new file: where it has more than one name (hard links), the others
+keep the old one.
 
 WAV files have one channel and 16 bits. S900 words have 12: unpack shifts them left by four, and
 pack refuses words whose low four bits aren't zero rather than lose them. pack takes number of
