@@ -14,15 +14,6 @@ typedef struct {
 static const sampler S900 = {60, 16, 3, sj_s900_unpack, sj_s900_pack};
 static const sampler S1000 = {150, 26, 4, sj_s1000_unpack, sj_s1000_pack};
 
-/* A copy that ends at a page which can't be touched; three may be lent at once. */
-static uint8_t *at_edge(int k, const void *from, size_t n) {
-    static uint8_t *edge[3];
-    if (!edge[k])
-        edge[k] = guarded(32768) + 32768;
-    memcpy(edge[k] - n, from, n);
-    return edge[k] - n;
-}
-
 static size_t long_at(const uint8_t *b, size_t at) { return b[at] + 256u * b[at + 1] + 65536u * b[at + 2] + 16777216u * (size_t)b[at + 3]; }
 
 static void set_long(uint8_t *b, size_t at, size_t value) {

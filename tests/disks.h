@@ -45,6 +45,21 @@ static inline void release(uint8_t *p, size_t n) {
     CHECK(munmap(p + n - whole, whole + page) == 0);
 }
 
+/* Room for n bytes that end at a page which can't be touched, so that one byte read or written past them traps. There are four such
+ * places; the room of one is taken again by the next call for it. */
+enum { EDGE = 2097152 };
+
+static inline uint8_t *edge(int place, size_t n) {
+    static uint8_t *ends[4];
+    CHECK(n <= EDGE);
+    if (!ends[place])
+        ends[place] = guarded(EDGE) + EDGE;
+    return ends[place] - n;
+}
+
+/* A copy there. */
+static inline uint8_t *at_edge(int place, const void *from, size_t n) { return memcpy(edge(place, n), from, n); }
+
 /* A stream of numbers that is the same at every run. */
 static uint64_t seed = 20260701;
 
