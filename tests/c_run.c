@@ -1,9 +1,9 @@
 /* Scripts of calls from C: each reply, each page and the image are what the same calls give when they are made one by one; a script ends
- * before the first entry that is no call. */
+ * before the first entry that is no call; script, pool and output end at pages that can't be touched. */
 #include "disks.h"
 #include "skilletjay.h"
 
-enum { ENTRY = 20, PART = 1044, PAGE = 1024, CALLS = 40, POOL = 70000 };
+enum { ENTRY = 20, PART = 1044, PAGE = 1024, CALLS = 40, POOL = 70000, NAMES = POOL - 26 * 12 };
 
 static uint8_t script[ENTRY * CALLS + 19], pool[POOL], out[PART * CALLS + 7], want[sizeof out];
 
@@ -14,12 +14,12 @@ static void set_number(uint8_t *at, int width, size_t value) {
 
 static size_t get_number(const uint8_t *at) { return at[0] + 256u * at[1] + 65536u * at[2] + 16777216u * (size_t)at[3]; }
 
-/* The pool begins with 26 names of 12 letters, any ten of which are an S900 name. */
+/* The pool ends with 26 names of 12 letters, the first ten of which are an S900 name; so the last name stands at the pool's edge. */
 static void make_pool(void) {
-    for (int i = 0; i < 26 * 12; i++)
-        pool[i] = i % 12 ? ' ' : (uint8_t)('A' + i / 12);
-    for (int i = 26 * 12; i < POOL; i++)
+    for (int i = 0; i < NAMES; i++)
         pool[i] = (uint8_t)next_random();
+    for (int i = 0; i < 26 * 12; i++)
+        pool[NAMES + i] = i % 12 ? ' ' : (uint8_t)('A' + i / 12);
 }
 
 static void make_entry(const shape *s, uint8_t *e) {
@@ -33,7 +33,7 @@ static void make_entry(const shape *s, uint8_t *e) {
         set_number(e + 8, 4, next_random() % 3 ? 0 : next_random() % 4000);
         return;
     }
-    set_number(e + 4, 4, 12 * (next_random() % 26));
+    set_number(e + 4, 4, NAMES + 12 * (next_random() % 26));
     set_number(e + 8, 4, (size_t)s->letters - (next_random() % 30 == 0));
     if (next_random() % 60 == 0)
         set_number(e + 8, 4, POOL);
@@ -86,8 +86,11 @@ static void run_one(const shape *s, uint8_t *image, uint8_t *other, size_t n) {
     size_t most = script_len / ENTRY < out_len / PART ? script_len / ENTRY : out_len / PART, made = 0;
     while (made < most && make_call(other, n, script + ENTRY * made, want + PART * made))
         made++;
-    CHECK(sj_run(image, n, script, script_len, pool, POOL, out, out_len) == made);
-    CHECK(memcmp(out, want, sizeof out) == 0 && memcmp(image, other, n) == 0);
+    const uint8_t *lent_script = at_edge(0, script, script_len), *lent_pool = at_edge(1, pool, POOL);
+    uint8_t *lent_out = at_edge(2, out, out_len);
+    CHECK(sj_run(image, n, lent_script, script_len, lent_pool, POOL, lent_out, out_len) == made);
+    CHECK(memcmp(lent_out, want, out_len) == 0 && memcmp(image, other, n) == 0);
+    CHECK(memcmp(lent_script, script, script_len) == 0 && memcmp(lent_pool, pool, POOL) == 0);
 }
 
 int main(void) {
