@@ -93,6 +93,32 @@ static void run_one(const shape *s, uint8_t *image, uint8_t *other, size_t n) {
     CHECK(memcmp(lent_script, script, script_len) == 0 && memcmp(lent_pool, pool, POOL) == 0);
 }
 
+/* The replies to one list, page, find, remove and put that are all refused; the pages are kept. */
+static void all_refused(const uint8_t *replies, const uint32_t *refusals) {
+    uint8_t due[PART];
+    memset(due, 7, sizeof due);
+    for (int k = 0; k < 5; k++) {
+        reply(due, refusals[k], 0, 0, false, NULL);
+        CHECK(memcmp(replies + PART * k, due, sizeof due) == 0);
+    }
+}
+
+/* Every slice null in turn: no entry or no room for a reply is no call, and a pool of nothing holds only names and contents of nothing. */
+static void run_nulls(uint8_t *image, size_t n) {
+    static const uint32_t empty[5] = {10, 10, 11, 11, 11}, no_image[5] = {1, 1, 1, 1, 1};
+    uint8_t entries[5 * ENTRY] = {0}, replies[5 * PART];
+    memset(replies, 7, sizeof replies);
+    for (int k = 0; k < 5; k++)
+        entries[ENTRY * k] = (uint8_t)k;
+    CHECK(sj_run(image, n, NULL, 0, pool, POOL, replies, sizeof replies) == 0 && replies[0] == 7);
+    CHECK(sj_run(image, n, entries, sizeof entries, pool, POOL, NULL, 0) == 0);
+    CHECK(sj_run(image, n, entries, sizeof entries, NULL, 0, replies, sizeof replies) == 5);
+    all_refused(replies, empty);
+    CHECK(sj_run(NULL, 0, entries, sizeof entries, NULL, 0, replies, sizeof replies) == 5);
+    all_refused(replies, no_image);
+    CHECK(sj_run(NULL, 0, NULL, 0, NULL, 0, NULL, 0) == 0);
+}
+
 int main(void) {
     make_pool();
     for (int k = 0; k < 4; k++) {
@@ -101,6 +127,7 @@ int main(void) {
         uint8_t *image = guarded(n), *other = malloc(n);
         CHECK(other);
         make_blank(image, s);
+        run_nulls(image, n);
         for (int i = 0; i < 150; i++)
             run_one(s, image, other, n);
         CHECK(sj_check(image, n).refusal == 0);
@@ -109,7 +136,6 @@ int main(void) {
         free(other);
         release(image, n);
     }
-    CHECK(sj_run(NULL, 0, NULL, 0, NULL, 0, NULL, 0) == 0);
     puts("c_run: ok");
     return 0;
 }
