@@ -160,15 +160,21 @@ static void try_pack(const sampler *s, const uint8_t *header, size_t length, con
     }
 }
 
-static void samples(const sampler *s) {
+/* Words at random that the sampler takes, and the file that holds them. */
+static void make_sample(const sampler *s, size_t n, int16_t *words, uint8_t *file) {
+    for (size_t i = 0; i < n; i++)
+        words[i] = s->header == 60 ? (int16_t)(next_random() % 4096) - 2048 : (int16_t)next_random();
+    make_header(s, file, n);
+    store(s, words, n, file + s->header);
+}
+
+/* Samples of few words, odd numbers of them too: every length of the file, rooms about what is due, headers of other sizes, a word more. */
+static void sample_sizes(const sampler *s) {
     uint8_t file[150 + 4 * WORDS];
-    int16_t words[WORDS + 1];
+    int16_t words[WORDS + 1] = {0};
     for (size_t n = 0; n <= WORDS; n++) {
         size_t due = s->header + n * s->data / 2;
-        for (size_t i = 0; i <= n; i++)
-            words[i] = s->header == 60 ? (int16_t)(next_random() % 4096) - 2048 : (int16_t)next_random();
-        make_header(s, file, n);
-        store(s, words, n, file + s->header);
+        make_sample(s, n, words, file);
         for (size_t room = 0; room <= n + 1; room++)
             try_unpack(s, file, due, words, room);
         for (size_t length = 0; length <= due + 2; length++)
@@ -179,15 +185,32 @@ static void samples(const sampler *s) {
         try_pack(s, file, s->header + 1, words, n, due);
         try_pack(s, file, s->header, words, n + 1, due + 4);
     }
+}
+
+static void try_both(const sampler *s, const uint8_t *file, const int16_t *words) {
+    try_unpack(s, file, s->header + WORDS * s->data / 2, words, WORDS);
+    try_pack(s, file, s->header, words, WORDS, 2 * MOST);
+}
+
+/* Every value of every byte of the header, alone. */
+static void header_bytes(const sampler *s) {
+    uint8_t file[150 + 4 * WORDS];
+    int16_t words[WORDS];
+    make_sample(s, WORDS, words, file);
     for (size_t at = 0; at < s->header; at++)
         for (int value = 0; value < 256; value++) {
             uint8_t was = file[at];
             file[at] = (uint8_t)value;
-            try_unpack(s, file, s->header + WORDS * s->data / 2, words, WORDS);
-            try_pack(s, file, s->header, words, WORDS, 2 * MOST);
+            try_both(s, file, words);
             file[at] = was;
         }
-    /* several rules broken at once: markers about N, and bytes anywhere but in N */
+}
+
+/* Several rules broken at once: markers about N, and bytes anywhere but in N. */
+static void broken_rules(const sampler *s) {
+    uint8_t file[150 + 4 * WORDS];
+    int16_t words[WORDS];
+    make_sample(s, WORDS, words, file);
     for (int k = 0; k < 20000; k++) {
         make_header(s, file, WORDS);
         for (size_t at = s->header == 60 ? 28 : 30; at <= (s->header == 60 ? 36 : 34); at += 4)
@@ -195,20 +218,37 @@ static void samples(const sampler *s) {
         size_t at = next_random() % s->header;
         if (k % 4 == 0 && (at < s->count_at || at > s->count_at + 3))
             file[at] = (uint8_t)next_random();
-        try_unpack(s, file, s->header + WORDS * s->data / 2, words, WORDS);
-        try_pack(s, file, s->header, words, WORDS, 2 * MOST);
+        try_both(s, file, words);
     }
+}
+
+/* Counts whose file length would wrap in 32 bits. */
+static void wrapped_counts(const sampler *s) {
+    uint8_t file[150 + 4 * WORDS];
+    int16_t words[WORDS];
+    make_sample(s, WORDS, words, file);
+    for (unsigned k = 0; k < 64; k++) {
+        set_long(file, s->count_at, (size_t)(k % 2 ? 2863311530u : 2147483648u) - 32 + k);
+        try_both(s, file, words);
+    }
+}
+
+static void words_outside(const sampler *s) {
+    uint8_t file[150];
+    int16_t words[WORDS] = {0};
     make_header(s, file, WORDS);
     for (int value = -32768; value <= 32767; value += value < -2100 || value > 2100 ? 997 : 1) {
         words[next_random() % WORDS] = (int16_t)value;
         try_pack(s, file, s->header, words, WORDS, 2 * MOST);
     }
-    /* counts whose file length would wrap in 32 bits */
-    for (unsigned k = 0; k < 64; k++) {
-        set_long(file, s->count_at, (size_t)(k % 2 ? 2863311530u : 2147483648u) - 32 + k);
-        try_unpack(s, file, s->header + WORDS * s->data / 2, words, WORDS);
-        try_pack(s, file, s->header, words, WORDS, 2 * MOST);
-    }
+}
+
+static void samples(const sampler *s) {
+    sample_sizes(s);
+    header_bytes(s);
+    broken_rules(s);
+    wrapped_counts(s);
+    words_outside(s);
 }
 
 static void worked_words(void) {
