@@ -65,6 +65,9 @@ static int fault(const sampler *s, const uint8_t *h) { return s->header == 60 ? 
 
 static bool odd(const sampler *s, size_t n) { return s->header == 60 && n % 2; }
 
+/* Whether a word may be packed: on an S900 it has 12 bits. */
+static bool fits(const sampler *s, int word) { return s->header == 150 || (word >= -2048 && word <= 2047); }
+
 /* The place of refusal 18, or -1: of a file, and of a header for so many words. */
 static int file_place(const sampler *s, const uint8_t *file, size_t length) {
     if (length < s->header)
@@ -131,13 +134,14 @@ static void try_unpack(const sampler *s, const uint8_t *file, size_t length, con
     CHECK(memcmp(out + r.count, before + r.count, 2 * (room - r.count)) == 0);
 }
 
-static void try_pack(const sampler *s, const uint8_t *header, size_t length, const int16_t *words, size_t n, size_t room) {
+/* Packs into room for some bytes; all is as the rules say, and what was packed unpacks. Gives the answer. */
+static sj_counted try_pack(const sampler *s, const uint8_t *header, size_t length, const int16_t *words, size_t n, size_t room) {
     uint8_t before[2 * MOST], data[2 * MOST];
     for (size_t i = 0; i < room; i++)
         before[i] = (uint8_t)next_random();
     int place = header_place(s, header, length, n), index = -1;
     for (size_t i = n; i-- > 0;)
-        if (s->header == 60 && (words[i] < -2048 || words[i] > 2047))
+        if (!fits(s, words[i]))
             index = (int)i;
     size_t due = s->header + n * s->data / 2;
     uint8_t *out = at_edge(0, before, room);
@@ -158,6 +162,7 @@ static void try_pack(const sampler *s, const uint8_t *header, size_t length, con
         memcpy(data, out, due);
         try_unpack(s, data, due, words, n + 1);
     }
+    return r;
 }
 
 /* Words at random that the sampler takes, and the file that holds them. */
@@ -233,13 +238,32 @@ static void wrapped_counts(const sampler *s) {
     }
 }
 
+/* Words that fit but for those at a and b, a not above b: each is outside 12 bits or not, and the lower one outside is the place. */
+static void pack_two(const sampler *s, size_t a, int lower, size_t b, int upper) {
+    uint8_t file[150 + 4 * WORDS];
+    int16_t words[WORDS];
+    make_sample(s, WORDS, words, file);
+    words[b] = (int16_t)upper;
+    words[a] = (int16_t)lower;
+    sj_counted r = try_pack(s, file, s->header, words, WORDS, 2 * MOST);
+    bool outside = !fits(s, lower) || !fits(s, upper);
+    CHECK(r.refusal == (outside ? 19u : 0u) && r.place == (!outside ? 0 : fits(s, lower) ? b : a));
+}
+
+/* Both edges of 12 bits at every word and every two words, and values all over 16 bits; each time all other words fit. */
 static void words_outside(const sampler *s) {
-    uint8_t file[150];
-    int16_t words[WORDS] = {0};
-    make_header(s, file, WORDS);
-    for (int value = -32768; value <= 32767; value += value < -2100 || value > 2100 ? 997 : 1) {
-        words[next_random() % WORDS] = (int16_t)value;
-        try_pack(s, file, s->header, words, WORDS, 2 * MOST);
+    static const int edges[] = {-32768, -2049, -2048, 2047, 2048, 32767};
+    size_t n = sizeof edges / sizeof *edges;
+    for (size_t a = 0; a < WORDS; a++)
+        for (size_t i = 0; i < n; i++) {
+            pack_two(s, a, edges[i], a, edges[i]);
+            for (size_t b = a + 1; b < WORDS; b++)
+                for (size_t k = 0; k < n; k++)
+                    pack_two(s, a, edges[i], b, edges[k]);
+        }
+    for (int value = -32768; value <= 32767; value += value < -2100 || value > 2100 ? 31 : 1) {
+        size_t at = next_random() % WORDS;
+        pack_two(s, at, value, at, value);
     }
 }
 
