@@ -267,12 +267,40 @@ static void words_outside(const sampler *s) {
     }
 }
 
+static bool gives(sj_counted r, uint32_t refusal, size_t place, size_t count) { return r.refusal == refusal && r.place == place && r.count == count; }
+
+/* Null slices of length 0 in every combination, in calls that refuse them and in calls that are done without a word. */
+static void null_slices(const sampler *s) {
+    uint8_t none[150], two[156], out[156];
+    int16_t words[2];
+    make_header(s, none, 0);
+    make_sample(s, 2, words, two);
+    memset(out, 7, sizeof out);
+    CHECK(gives(s->unpack(NULL, 0, NULL, 0), 18, 0, 0));
+    CHECK(gives(s->unpack(NULL, 0, words, 2), 18, 0, 0));
+    CHECK(gives(s->unpack(none, s->header, NULL, 0), 0, 0, 0));
+    CHECK(gives(s->unpack(two, s->header + s->data, NULL, 0), 21, 0, 0));
+    CHECK(gives(s->pack(NULL, 0, NULL, 0, NULL, 0), 18, 0, 0));
+    CHECK(gives(s->pack(NULL, 0, NULL, 0, out, sizeof out), 18, 0, 0));
+    CHECK(gives(s->pack(NULL, 0, words, 2, NULL, 0), 18, 0, 0));
+    CHECK(gives(s->pack(NULL, 0, words, 2, out, sizeof out), 18, 0, 0));
+    CHECK(gives(s->pack(two, s->header, NULL, 0, NULL, 0), 18, s->count_at, 0));
+    CHECK(gives(s->pack(two, s->header, NULL, 0, out, sizeof out), 18, s->count_at, 0));
+    CHECK(gives(s->pack(two, s->header, words, 2, NULL, 0), 21, 0, 0));
+    CHECK(gives(s->pack(none, s->header, NULL, 0, NULL, 0), 21, 0, 0));
+    for (size_t i = 0; i < sizeof out; i++)
+        CHECK(out[i] == 7);
+    CHECK(gives(s->pack(none, s->header, NULL, 0, out, sizeof out), 0, 0, s->header));
+    CHECK(memcmp(out, none, s->header) == 0 && out[s->header] == 7);
+}
+
 static void samples(const sampler *s) {
     sample_sizes(s);
     header_bytes(s);
     broken_rules(s);
     wrapped_counts(s);
     words_outside(s);
+    null_slices(s);
 }
 
 static void worked_words(void) {
@@ -408,7 +436,7 @@ int main(void) {
     samples(&S900);
     samples(&S1000);
     programs();
-    CHECK(sj_program(NULL, 0).refusal == 20 && sj_s900_unpack(NULL, 0, NULL, 0).refusal == 18 && sj_s1000_pack(NULL, 0, NULL, 0, NULL, 0).refusal == 18);
+    CHECK(gives(sj_program(NULL, 0), 20, 0, 0));
     puts("c_files: ok");
     return 0;
 }
