@@ -390,25 +390,53 @@ static void try_program(const uint8_t *file, size_t length) {
         CHECK(r.refusal == 20 && r.place == place && r.count == 0);
 }
 
-/* The published defaults, noise in the bytes that are carried. */
+static void set_short(uint8_t *at, int value) {
+    at[0] = (uint8_t)(value & 255);
+    at[1] = (uint8_t)(value >> 8 & 255);
+}
+
+static void obey(const rule *rules, size_t n, uint8_t *part) {
+    for (size_t k = 0; k < n; k++)
+        for (int i = 0; i < rules[k].count; i++) {
+            int value = rules[k].low + (int)(next_random() % (uint32_t)(rules[k].high - rules[k].low + 1));
+            part[rules[k].at + i] = (uint8_t)(next_random() % 8 ? value : rules[k].other);
+        }
+}
+
+/* A program of n keygroups in which every byte that has a rule holds a value at random that the rule allows, and every other byte noise. */
 static void make_program(uint8_t *file, size_t n) {
-    static const uint8_t carried[] = {31, 32, 33, 48, 54, 55, 56, 57, 149};
-    memset(file, 0, 150 * (n + 1));
-    file[0] = 1, file[1] = 150, file[17] = 15, file[19] = 24, file[20] = 127, file[22] = 255, file[42] = (uint8_t)n;
-    for (size_t i = 72; i < 150; i++)
+    for (size_t i = 0; i < 150 * (n + 1); i++)
         file[i] = (uint8_t)next_random();
+    obey(PROGRAM, sizeof PROGRAM / sizeof *PROGRAM, file);
+    file[42] = (uint8_t)n;
     for (size_t k = 1; k <= n; k++) {
         uint8_t *part = file + 150 * k;
-        part[0] = 2, part[1] = (uint8_t)(150 * (k + 1) & 255), part[2] = (uint8_t)(150 * (k + 1) >> 8), part[3] = 24, part[4] = 127;
-        for (size_t i = 0; i < sizeof carried; i++)
-            part[carried[i]] = (uint8_t)next_random();
+        obey(KEYGROUP, sizeof KEYGROUP / sizeof *KEYGROUP, part);
+        set_short(part + 1, (int)(150 * (k + 1)));
+        for (size_t i = 140; i < 148; i += 2)
+            set_short(part + i, (int)(next_random() % 19999) - 9999);
     }
+}
+
+/* Each of the 16-bit numbers of the last keygroup, on both sides of both its edges. */
+static void edge_numbers(uint8_t *file) {
+    make_program(file, 3);
+    for (size_t at = 590; at < 598; at += 2)
+        for (int far = 9998; far <= 10001; far++)
+            for (int sign = -1; sign <= 1; sign += 2) {
+                uint8_t was[2] = {file[at], file[at + 1]};
+                set_short(file + at, sign * far);
+                CHECK(gives(sj_program(file, 600), far > 9999 ? 20 : 0, far > 9999 ? 590 : 0, far > 9999 ? 0 : 3));
+                try_program(file, 600);
+                memcpy(file + at, was, 2);
+            }
 }
 
 static void programs(void) {
     static uint8_t file[150 * 101];
     for (size_t n = 1; n <= 100; n++) {
         make_program(file, n);
+        CHECK(sj_program(file, 150 * (n + 1)).refusal == (n < 100 ? 0u : 20u));
         try_program(file, 150 * (n + 1));
         try_program(file, 150 * (n + 1) - 1);
         try_program(file, 150 * n);
@@ -423,6 +451,7 @@ static void programs(void) {
             try_program(file, 600);
             file[at] = was;
         }
+    edge_numbers(file);
     for (int k = 0; k < 20000; k++) {
         make_program(file, 2);
         for (int i = 0; i < 4; i++)
