@@ -1,104 +1,99 @@
 /* The reading calls from C: pages of every awkward size join to the file, any bytes may be lent, and nothing is touched past its end. */
-#include "disks.h"
 #include "skilletjay.h"
+#include "volumes.h"
 
-/* Blocks that rise by seven and wrap, so that the chain is scattered. */
-static void scatter(const shape *s, unsigned *blocks, size_t count, unsigned from) {
-    unsigned area = (unsigned)(s->blocks - s->first);
-    for (size_t k = 0; k < count; k++)
-        blocks[k] = (unsigned)s->first + (from + 7 * (unsigned)k) % area;
+/* ---- disks that are whole */
+
+static void check_disk(const volume *v) {
+    sj_checked c = sj_check(v->image, v->n);
+    CHECK(c.refusal == 0 && c.place == 0 && c.files == FILES);
+    CHECK(c.kind == (uint32_t)v->s->kind && c.density == (v->s->blocks == 1600));
+    CHECK(c.free == (size_t)(v->s->blocks - v->s->first) - v->used);
 }
 
-static void same_name(const shape *s, const sj_listed *l, const char *name) {
-    char want[13] = {0};
-    memset(want, ' ', (size_t)s->letters);
-    memcpy(want, name, strlen(name));
-    CHECK(memcmp(l->name, want, 12) == 0);
+static void list_slot(const volume *v, size_t slot) {
+    uint8_t name[13] = {0};
+    bool there = slot % 9 == 0 && slot / 9 < FILES;
+    sj_listed l = sj_list(v->image, v->n, slot);
+    if (there)
+        snprintf((char *)name, sizeof name, "%-*s", v->s->letters, FILE_NAMES[slot / 9]);
+    CHECK(l.refusal == (there ? 0u : 10u) && l.place == 0);
+    CHECK(l.length == (there ? FILE_LENGTHS[slot / 9] : 0) && memcmp(l.name, name, 12) == 0);
+    CHECK(l.type == (!there ? 0 : v->s->kind == 900 ? 'S' : 's'));
 }
 
-/* Pages slot from 0 in pages of `size`; only the last says the end. */
-static void page_all(const uint8_t *image, size_t n, size_t slot, const uint8_t *content, size_t length, size_t size) {
-    uint8_t *out = guarded(size);
+/* A file's name is found at its own length and at no other; a sign in it is legal or not by the kind. */
+static void find_file(const volume *v, int f) {
+    char name[14];
+    size_t letters = (size_t)v->s->letters;
+    snprintf(name, sizeof name, "%-13s", FILE_NAMES[f]);
+    for (size_t length = 0; length <= 13; length++) {
+        sj_found found = sj_find(v->image, v->n, (const uint8_t *)name, length);
+        CHECK(found.refusal == (length == letters ? 0u : 11u) && found.place == 0);
+        CHECK(found.slot == (length == letters ? 9 * (size_t)f : 0));
+    }
+    name[0] = '!';
+    CHECK(sj_find(v->image, v->n, (const uint8_t *)name, letters).refusal == (v->s->kind == 900 ? 10u : 11u));
+}
+
+/* A page of a file to an output that ends at a page which traps: the bytes that are due, the rest kept, the end where the file ends. */
+static sj_paged page(const volume *v, int f, size_t offset, size_t size) {
+    size_t left = FILE_LENGTHS[f] - offset;
+    uint8_t *out = edge(0, size);
+    memset(out, 0xA5, size);
+    sj_paged p = sj_page(v->image, v->n, 9 * (size_t)f, offset, out, size);
+    CHECK(p.refusal == 0 && p.place == 0 && p.count == (left < size ? left : size));
+    CHECK(memcmp(out, v->contents[f] + offset, p.count) == 0);
+    for (size_t i = p.count; i < size; i++)
+        CHECK(out[i] == 0xA5);
+    CHECK(p.end == (p.count == left));
+    return p;
+}
+
+/* Pages of one size, each from where the last one stopped, join to the file; only the last says the end. */
+static void download(const volume *v, int f, size_t size) {
     size_t sum = 0;
-    for (;;) {
-        memset(out, 0xA5, size);
-        sj_paged p = sj_page(image, n, slot, sum, out, size);
-        CHECK(p.refusal == 0 && p.place == 0);
-        CHECK(p.count == (length - sum < size ? length - sum : size));
-        CHECK(memcmp(out, content + sum, p.count) == 0);
-        for (size_t i = p.count; i < size; i++)
-            CHECK(out[i] == 0xA5);
+    for (bool end = false; !end;) {
+        sj_paged p = page(v, f, sum, size);
         sum += p.count;
-        CHECK(p.end == (sum == length));
-        if (p.end)
-            break;
+        end = p.end;
     }
-    release(out, size);
+    CHECK(sum == FILE_LENGTHS[f]);
 }
 
-static void read_disk(const shape *s) {
-    static const size_t lengths[] = {1, 1023, 1024, 1025, 2048, 5000, 100000};
-    static const size_t sizes[] = {1, 7, 1000, 1023, 1024, 1025, 2047, 4096, 65536, 200000};
-    static const char *names[] = {"A", "BASS", "CELLO", "DRUM", "ECHO", "FLUTE", "GONG"};
-    size_t n = 1024 * (size_t)s->blocks;
-    uint8_t *image = guarded(n), *contents[7], *before = malloc(n);
-    unsigned blocks[1600], from = 0;
-    CHECK(before);
-    make_blank(image, s);
-    for (int f = 0; f < 7; f++) {
-        size_t count = (lengths[f] + 1023) / 1024;
-        contents[f] = malloc(lengths[f]);
-        CHECK(contents[f]);
-        for (size_t i = 0; i < lengths[f]; i++)
-            contents[f][i] = (uint8_t)next_random();
-        scatter(s, blocks, count, 7 * from);
-        add_file(image, s, 9 * f, names[f], blocks, contents[f], lengths[f]);
-        from += (unsigned)count;
-    }
-    memcpy(before, image, n);
+/* At the length there is nothing left but the end, past it nothing; outputs of nothing may be null. */
+static void page_limits(const volume *v, int f) {
+    size_t length = FILE_LENGTHS[f], slot = 9 * (size_t)f;
+    uint8_t out[3] = {1, 2, 3};
+    sj_paged p = sj_page(v->image, v->n, slot, length, out, 3);
+    CHECK(p.refusal == 0 && p.count == 0 && p.end && out[0] == 1);
+    p = sj_page(v->image, v->n, slot, length + 1, out, 3);
+    CHECK(p.refusal == 17 && p.place == 0 && p.count == 0 && !p.end && out[0] == 1 && out[2] == 3);
+    p = sj_page(v->image, v->n, slot, SIZE_MAX, out, 3);
+    CHECK(p.refusal == 17 && p.place == 0 && p.count == 0 && !p.end && out[0] == 1 && out[2] == 3);
+    p = sj_page(v->image, v->n, slot, 0, NULL, 0);
+    CHECK(p.refusal == 0 && p.count == 0 && !p.end);
+    p = sj_page(v->image, v->n, slot, length, NULL, 0);
+    CHECK(p.refusal == 0 && p.count == 0 && p.end);
+}
 
-    sj_checked c = sj_check(image, n);
-    CHECK(c.refusal == 0 && c.place == 0 && c.files == 7);
-    CHECK(c.kind == (uint32_t)s->kind && c.density == (s->blocks == 1600));
-    CHECK(c.free == (size_t)(s->blocks - s->first) - from);
-    for (size_t slot = 0; slot < 70; slot++) {
-        sj_listed l = sj_list(image, n, slot);
-        bool there = slot < 64 && slot % 9 == 0 && slot / 9 < 7;
-        CHECK(l.refusal == (there ? 0u : 10u) && l.place == 0);
-        CHECK(l.length == (there ? lengths[slot / 9] : 0));
-        CHECK(l.type == (there ? (s->kind == 900 ? 'S' : 's') : 0));
-        if (there)
-            same_name(s, &l, names[slot / 9]);
-    }
-    for (int f = 0; f < 7; f++) {
-        char name[13];
-        snprintf(name, sizeof name, "%-*s", s->letters, names[f]);
-        sj_found found = sj_find(image, n, (const uint8_t *)name, (size_t)s->letters);
-        CHECK(found.refusal == 0 && found.slot == (size_t)(9 * f));
-        CHECK(sj_find(image, n, (const uint8_t *)name, (size_t)s->letters - 1).refusal == 11);
-        name[0] = '!';
-        CHECK(sj_find(image, n, (const uint8_t *)name, (size_t)s->letters).refusal == (s->kind == 900 ? 10u : 11u));
-        for (size_t z = 0; z < sizeof sizes / sizeof *sizes; z++)
-            if (lengths[f] / sizes[z] < 5000)
-                page_all(image, n, (size_t)(9 * f), contents[f], lengths[f], sizes[z]);
-        uint8_t out[3] = {1, 2, 3};
-        sj_paged p = sj_page(image, n, (size_t)(9 * f), lengths[f], out, 3);
-        CHECK(p.refusal == 0 && p.count == 0 && p.end && out[0] == 1);
-        p = sj_page(image, n, (size_t)(9 * f), lengths[f] + 1, out, 3);
-        CHECK(p.refusal == 17 && p.place == 0 && p.count == 0 && !p.end && out[0] == 1 && out[2] == 3);
-        p = sj_page(image, n, (size_t)(9 * f), 0, NULL, 0);
-        CHECK(p.refusal == 0 && p.count == 0 && !p.end);
-    }
+static void whole_disk(const volume *v) {
+    static const size_t sizes[] = {1, 7, 1000, 1023, 1024, 1025, 2047, 4096, 65536, 200000};
     uint8_t out[1] = {9};
-    CHECK(sj_page(image, n, 1, 0, out, 1).refusal == 10 && out[0] == 9);
-    CHECK(sj_page(image, n, SIZE_MAX, SIZE_MAX, out, 1).refusal == 10 && out[0] == 9);
-    CHECK(sj_page(image, n, 0, SIZE_MAX, out, 1).refusal == 17 && out[0] == 9);
-    CHECK(sj_list(image, n, SIZE_MAX).refusal == 10);
-    CHECK(memcmp(before, image, n) == 0);
-    for (int f = 0; f < 7; f++)
-        free(contents[f]);
-    free(before);
-    release(image, n);
+    check_disk(v);
+    for (size_t slot = 0; slot < 70; slot++)
+        list_slot(v, slot);
+    list_slot(v, SIZE_MAX - 1);
+    for (int f = 0; f < FILES; f++) {
+        find_file(v, f);
+        page_limits(v, f);
+        for (size_t z = 0; z < sizeof sizes / sizeof *sizes; z++)
+            if (FILE_LENGTHS[f] / sizes[z] < 5000)
+                download(v, f, sizes[z]);
+    }
+    CHECK(sj_page(v->image, v->n, 1, 0, out, 1).refusal == 10 && out[0] == 9);
+    CHECK(sj_page(v->image, v->n, SIZE_MAX, SIZE_MAX, out, 1).refusal == 10 && out[0] == 9);
+    CHECK(sj_list(v->image, v->n, SIZE_MAX).refusal == 10);
 }
 
 /* All four calls on bytes that may be anything; they agree on the check's refusal. */
@@ -152,8 +147,13 @@ static void noise(void) {
 }
 
 int main(void) {
-    for (int k = 0; k < 4; k++)
-        read_disk(&SHAPES[k]);
+    for (int k = 0; k < 8; k++) {
+        volume v;
+        make_volume(&v, &SHAPES[k % 4], k >= 4);
+        whole_disk(&v);
+        CHECK(memcmp(v.image, v.made, v.n) == 0);
+        drop_volume(&v);
+    }
     noise();
     puts("c_read: ok");
     return 0;

@@ -2,6 +2,7 @@
 #ifndef DISKS_H
 #define DISKS_H
 
+#include <stdbool.h>
 #include <stdint.h>
 #include <stdio.h>
 #include <stdlib.h>
@@ -30,6 +31,8 @@ static const shape SHAPES[4] = {
     {1000, 800, 4, 12, 19152},
     {1000, 1600, 5, 12, 19152},
 };
+
+enum { HEAD = 5120 }; /* directory and map lie in these bytes, whatever the kind */
 
 /* n bytes that end at a page which can't be touched. */
 static inline uint8_t *guarded(size_t n) {
@@ -115,6 +118,18 @@ static inline void add_file(uint8_t *image, const shape *s, int slot, const char
         memcpy(image + 1024 * (size_t)blocks[k], content + 1024 * k, part);
         set_value(image, blocks[k], k + 1 < count ? blocks[k + 1] : s->end);
     }
+}
+
+/* Noise in every byte that no rule reads: the rest of empty slots, what lies between the map and the first data block, and on S900 disks
+ * the map values below that block. */
+static inline void make_noise(uint8_t *image, const shape *s) {
+    for (int i = 0; i < 1536; i++)
+        if (i % 24 < 22 && i % 24 != 16 && image[i / 24 * 24 + 16] == 0)
+            image[i] = (uint8_t)next_random();
+    for (int i = 1536 + 2 * s->blocks; i < 1024 * s->first; i++)
+        image[i] = (uint8_t)next_random();
+    for (int block = 0; s->kind == 900 && block < s->first; block++)
+        set_value(image, (unsigned)block, next_random() % 65536);
 }
 
 #endif

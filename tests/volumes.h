@@ -1,0 +1,59 @@
+/* Disks that hold files, file f in slot 9f. */
+#ifndef VOLUMES_H
+#define VOLUMES_H
+
+#include "disks.h"
+
+enum { FILES = 7, LONGEST = 98 };
+
+static const size_t FILE_LENGTHS[FILES] = {1, 1023, 1024, 1025, 2048, 5000, 100000};
+static const char *const FILE_NAMES[FILES] = {"A", "BASS", "CELLO", "DRUM", "ECHO", "FLUTE", "GONG"};
+
+typedef struct {
+    const shape *s;
+    size_t n;                 /* the image's length */
+    uint8_t *image, *made;    /* at a page that can't be touched, and a copy of it as it was made */
+    uint8_t *contents[FILES]; /* in one piece */
+    unsigned chains[FILES][LONGEST];
+    size_t used; /* blocks on chains */
+} volume;
+
+static inline size_t blocks_for(size_t length) { return (length + 1023) / 1024; }
+
+/* The data blocks in an order that rises and falls; 343 has no factor in common with either number of them, so none comes twice. */
+static inline unsigned scattered(const shape *s, size_t k) { return (unsigned)s->first + (unsigned)(343 * k % (size_t)(s->blocks - s->first)); }
+
+static inline void make_file(volume *v, int f) {
+    for (size_t i = 0; i < FILE_LENGTHS[f]; i++)
+        v->contents[f][i] = (uint8_t)next_random();
+    for (size_t k = 0; k < blocks_for(FILE_LENGTHS[f]); k++)
+        v->chains[f][k] = scattered(v->s, v->used++);
+    add_file(v->image, v->s, 9 * f, FILE_NAMES[f], v->chains[f], v->contents[f], FILE_LENGTHS[f]);
+}
+
+static inline void make_volume(volume *v, const shape *s, bool noise) {
+    size_t all = 0;
+    for (int f = 0; f < FILES; f++)
+        all += FILE_LENGTHS[f];
+    *v = (volume){.s = s, .n = 1024 * (size_t)s->blocks};
+    v->image = guarded(v->n);
+    v->made = malloc(v->n);
+    v->contents[0] = malloc(all);
+    CHECK(v->made && v->contents[0]);
+    for (int f = 1; f < FILES; f++)
+        v->contents[f] = v->contents[f - 1] + FILE_LENGTHS[f - 1];
+    make_blank(v->image, s);
+    if (noise)
+        make_noise(v->image, s);
+    for (int f = 0; f < FILES; f++)
+        make_file(v, f);
+    memcpy(v->made, v->image, v->n);
+}
+
+static inline void drop_volume(volume *v) {
+    free(v->contents[0]);
+    free(v->made);
+    release(v->image, v->n);
+}
+
+#endif
