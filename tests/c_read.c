@@ -1,4 +1,4 @@
-/* The reading calls from C: pages of every awkward size join to the file, any bytes may be lent, and nothing is touched past its end. */
+/* The reading calls from C: pages of every size join to the file, any bytes may be lent, and nothing is touched past its end. */
 #include "skilletjay.h"
 #include "volumes.h"
 
@@ -28,12 +28,12 @@ static void find_file(const volume *v, int f) {
     size_t letters = (size_t)v->s->letters;
     snprintf(name, sizeof name, "%-13s", FILE_NAMES[f]);
     for (size_t length = 0; length <= 13; length++) {
-        sj_found found = sj_find(v->image, v->n, (const uint8_t *)name, length);
+        sj_found found = sj_find(v->image, v->n, at_edge(1, name, length), length);
         CHECK(found.refusal == (length == letters ? 0u : 11u) && found.place == 0);
         CHECK(found.slot == (length == letters ? 9 * (size_t)f : 0));
     }
     name[0] = '!';
-    CHECK(sj_find(v->image, v->n, (const uint8_t *)name, letters).refusal == (v->s->kind == 900 ? 10u : 11u));
+    CHECK(sj_find(v->image, v->n, at_edge(1, name, letters), letters).refusal == (v->s->kind == 900 ? 10u : 11u));
 }
 
 /* A page of a file to an output that ends at a page which traps: the bytes that are due, the rest kept, the end where the file ends. */
@@ -59,6 +59,17 @@ static void download(const volume *v, int f, size_t size) {
         end = p.end;
     }
     CHECK(sum == FILE_LENGTHS[f]);
+}
+
+/* Every small size about each edge of a block and the file's end. */
+static void small_pages(const volume *v, int f) {
+    size_t length = FILE_LENGTHS[f], most = 1024 * blocks_for(length);
+    for (size_t at = 0; at <= most && at <= 8192; at += 1024)
+        for (size_t offset = at < 3 ? 0 : at - 3; offset <= at + 3 && offset <= length; offset++)
+            for (size_t size = 0; size <= 40; size++)
+                page(v, f, offset, size);
+    for (size_t size = 0; size <= 40; size++)
+        page(v, f, length - (length < size ? length : size), size);
 }
 
 /* At the length there is nothing left but the end, past it nothing; outputs of nothing may be null. */
@@ -87,10 +98,13 @@ static void whole_disk(const volume *v) {
     for (int f = 0; f < FILES; f++) {
         find_file(v, f);
         page_limits(v, f);
+        small_pages(v, f);
         for (size_t z = 0; z < sizeof sizes / sizeof *sizes; z++)
             if (FILE_LENGTHS[f] / sizes[z] < 5000)
                 download(v, f, sizes[z]);
     }
+    sj_found none = sj_find(v->image, v->n, NULL, 0);
+    CHECK(none.refusal == 11 && none.place == 0 && none.slot == 0);
     CHECK(sj_page(v->image, v->n, 1, 0, out, 1).refusal == 10 && out[0] == 9);
     CHECK(sj_page(v->image, v->n, SIZE_MAX, SIZE_MAX, out, 1).refusal == 10 && out[0] == 9);
     CHECK(sj_list(v->image, v->n, SIZE_MAX).refusal == 10);
