@@ -1,4 +1,5 @@
-/* The reading calls from C: pages of every size join to the file, any bytes may be lent, and nothing is touched past its end. */
+/* The reading calls from C: pages of every size join to the file, whatever is called between them; any bytes may be lent, and
+ * nothing is touched past its end. */
 #include "skilletjay.h"
 #include "volumes.h"
 
@@ -88,6 +89,43 @@ static void page_limits(const volume *v, int f) {
     CHECK(p.refusal == 0 && p.count == 0 && p.end);
 }
 
+/* One call of any sort, such as may stand between a download's pages. */
+static void other_call(const volume *v) {
+    int f = (int)(next_random() % FILES);
+    switch (next_random() % 4) {
+    case 0:
+        check_disk(v);
+        break;
+    case 1:
+        list_slot(v, next_random() % 70);
+        break;
+    case 2:
+        find_file(v, f);
+        break;
+    default:
+        page(v, f, next_random() % (FILE_LENGTHS[f] + 1), next_random() % 3000);
+    }
+}
+
+/* Every file is downloaded at once, a page of each in turn and other calls between: none may leave anything behind that a page sees. */
+static void downloads_in_turn(const volume *v, size_t size) {
+    size_t sums[FILES] = {0};
+    bool ended[FILES] = {false};
+    for (int open = FILES; open > 0;)
+        for (int f = 0; f < FILES; f++) {
+            if (ended[f])
+                continue;
+            sj_paged p = page(v, f, sums[f], size);
+            sums[f] += p.count;
+            ended[f] = p.end;
+            open -= p.end;
+            for (int k = (int)(next_random() % 4); k > 0; k--)
+                other_call(v);
+        }
+    for (int f = 0; f < FILES; f++)
+        CHECK(sums[f] == FILE_LENGTHS[f]);
+}
+
 static void whole_disk(const volume *v) {
     static const size_t sizes[] = {1, 7, 1000, 1023, 1024, 1025, 2047, 4096, 65536, 200000};
     uint8_t out[1] = {9};
@@ -103,6 +141,8 @@ static void whole_disk(const volume *v) {
             if (FILE_LENGTHS[f] / sizes[z] < 5000)
                 download(v, f, sizes[z]);
     }
+    for (size_t z = 2; z < sizeof sizes / sizeof *sizes; z++)
+        downloads_in_turn(v, sizes[z]);
     sj_found none = sj_find(v->image, v->n, NULL, 0);
     CHECK(none.refusal == 11 && none.place == 0 && none.slot == 0);
     CHECK(sj_page(v->image, v->n, 1, 0, out, 1).refusal == 10 && out[0] == 9);
