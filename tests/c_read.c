@@ -1,5 +1,5 @@
-/* The reading calls from C: pages of every size join to the file, whatever is called between them; any bytes may be lent, and
- * nothing is touched past its end. */
+/* The reading calls from C: pages of every size join to the file, whatever is called between them; a damaged disk is refused by its number
+ * and place, the same by every call; any bytes may be lent, and nothing is touched past its end. */
 #include "skilletjay.h"
 #include "volumes.h"
 
@@ -150,52 +150,271 @@ static void whole_disk(const volume *v) {
     CHECK(sj_list(v->image, v->n, SIZE_MAX).refusal == 10);
 }
 
-/* All four calls on bytes that may be anything; they agree on the check's refusal. */
-static void any_bytes(const uint8_t *image, size_t n) {
-    uint8_t out[16], name[12] = "ABCDEFGHIJKL";
-    memset(out, 7, sizeof out);
+/* ---- every reading call on any bytes */
+
+/* An accepted image: as many slots list as the check counted, their blocks and the free ones make the data area, each name is found in
+ * its slot, and each file ends at its length. */
+static void read_accepted(const uint8_t *image, size_t n, const sj_checked *c) {
+    size_t files = 0, blocks = 0, letters = c->kind == 900 ? 10 : 12;
+    for (size_t slot = 0; slot < 64; slot++) {
+        sj_listed l = sj_list(image, n, slot);
+        CHECK(l.refusal == 0 || l.refusal == 10);
+        if (l.refusal)
+            continue;
+        files++;
+        blocks += blocks_for(l.length);
+        sj_found f = sj_find(image, n, at_edge(1, l.name, letters), letters);
+        CHECK(f.refusal == 0 && f.slot == slot);
+        CHECK(sj_page(image, n, slot, l.length, NULL, 0).end && !sj_page(image, n, slot, 0, NULL, 0).end);
+    }
+    CHECK(files == c->files && blocks + c->free == (c->density ? 1595 : 796));
+}
+
+static void same_found(sj_found f, const sj_checked *c) { CHECK(f.refusal == c->refusal && f.place == c->place && f.slot == 0); }
+
+static void same_paged(sj_paged p, const sj_checked *c) { CHECK(p.refusal == c->refusal && p.place == c->place && p.count == 0 && !p.end); }
+
+/* A refused image: every call gives the check's refusal and place and nothing else, and keeps the output, whatever else it was lent. */
+static void read_refused(const uint8_t *image, size_t n, const sj_checked *c) {
+    static const uint8_t nothing[12];
+    size_t slot = next_random() % 2 ? 9 * (next_random() % FILES) : next_random() % 70;
+    size_t offset = next_random() % 2 ? 0 : next_random() % 5000, room = next_random() % 64;
+    size_t named = next_random() % 4 ? 10 + 2 * (next_random() % 2) : next_random() % 14;
+    char name[14];
+    CHECK(c->kind == 0 && c->density == 0 && c->files == 0 && c->free == 0);
+    sj_listed l = sj_list(image, n, slot);
+    CHECK(l.refusal == c->refusal && l.place == c->place && l.type == 0 && l.length == 0 && memcmp(l.name, nothing, 12) == 0);
+    snprintf(name, sizeof name, "%-13s", FILE_NAMES[next_random() % FILES]);
+    same_found(sj_find(image, n, at_edge(1, name, named), named), c);
+    same_found(sj_find(image, n, NULL, 0), c);
+    uint8_t *out = edge(0, room);
+    memset(out, 7, room);
+    same_paged(sj_page(image, n, slot, offset, out, room), c);
+    for (size_t i = 0; i < room; i++)
+        CHECK(out[i] == 7);
+    same_paged(sj_page(image, n, slot, offset, NULL, 0), c);
+}
+
+/* Gives the check's answer, after every other call was held to it and the image's head was seen to be kept. */
+static sj_checked read_any(const uint8_t *image, size_t n) {
+    static uint8_t head[HEAD];
+    size_t kept = n < HEAD ? n : HEAD;
+    if (kept)
+        memcpy(head, image, kept);
     sj_checked c = sj_check(image, n);
     CHECK(c.refusal <= 9);
-    CHECK(c.refusal == 0 || (c.kind == 0 && c.density == 0 && c.files == 0 && c.free == 0));
-    sj_listed l = sj_list(image, n, next_random() % 70);
-    sj_found f = sj_find(image, n, name, next_random() % 13);
-    sj_paged p = sj_page(image, n, next_random() % 70, next_random() % 5000, out, next_random() % 16);
-    if (c.refusal) {
-        CHECK(l.refusal == c.refusal && l.place == c.place);
-        CHECK(f.refusal == c.refusal && f.place == c.place);
-        CHECK(p.refusal == c.refusal && p.place == c.place);
-        for (size_t i = 0; i < sizeof out; i++)
-            CHECK(out[i] == 7);
+    if (c.refusal)
+        read_refused(image, n, &c);
+    else
+        read_accepted(image, n, &c);
+    CHECK(kept == 0 || memcmp(head, image, kept) == 0);
+    return c;
+}
+
+/* ---- faults made one by one */
+
+static unsigned last_block(const volume *v, int f) { return v->chains[f][blocks_for(FILE_LENGTHS[f]) - 1]; }
+
+static void set_start(uint8_t *e, unsigned block) {
+    e[20] = (uint8_t)(block & 255);
+    e[21] = (uint8_t)(block >> 8);
+}
+
+static void set_length(uint8_t *e, size_t length) {
+    e[17] = (uint8_t)(length & 255);
+    e[18] = (uint8_t)(length >> 8 & 255);
+    e[19] = (uint8_t)(length >> 16);
+}
+
+/* Whether every call gives this answer on the disk as it stands; then it is made whole again. */
+static bool answers(volume *v, uint32_t refusal, size_t place) {
+    sj_checked c = read_any(v->image, v->n);
+    memcpy(v->image, v->made, HEAD);
+    return c.refusal == refusal && c.place == place;
+}
+
+static size_t later(int f, int g) { return 9 * (size_t)(f > g ? f : g); }
+
+/* 5: of two files of one name the later slot is the place, whichever has its own name; their types don't matter, and empty slots have none. */
+static void names_twice(volume *v) {
+    for (int f = 0; f < FILES; f++)
+        for (int g = 0; g < FILES; g++) {
+            memmove(entry(v, g), entry(v, f), 16);
+            entry(v, g)[16] += (uint8_t)(f % 2);
+            CHECK(answers(v, f == g ? 0 : 5, f == g ? 0 : later(f, g)));
+        }
+    memcpy(entry(v, 2), entry(v, 5), 16);
+    memcpy(entry(v, 4), entry(v, 5), 16);
+    CHECK(answers(v, 5, 9 * 4));
+    memcpy(v->image + 24, entry(v, 3), 16);
+    CHECK(answers(v, 0, 0));
+}
+
+/* Values that are neither a link nor the end mark: a free block's, the blocks next to the data area, a system block's, the other kind's
+ * end mark, the largest. */
+enum { STRAY_VALUES = 6 };
+
+static unsigned stray_value(const shape *s, int k) {
+    unsigned values[STRAY_VALUES] = {0, (unsigned)s->first - 1, (unsigned)s->blocks, 16384, s->kind == 900 ? 19152 : 32768, 65535};
+    return values[k];
+}
+
+/* 6: a start or, before the last block, a value that leads out of the data area. */
+static void chains_left(volume *v) {
+    for (int f = 0; f < FILES; f++) {
+        set_start(entry(v, f), v->s->end);
+        CHECK(answers(v, 6, 9 * (size_t)f));
+        for (int k = 0; k < STRAY_VALUES; k++) {
+            set_start(entry(v, f), stray_value(v->s, k));
+            CHECK(answers(v, 6, 9 * (size_t)f));
+            for (size_t i = 0; i + 1 < blocks_for(FILE_LENGTHS[f]); i++) {
+                set_value(v->image, v->chains[f][i], stray_value(v->s, k));
+                CHECK(answers(v, 6, 9 * (size_t)f));
+            }
+        }
     }
 }
 
+/* 7: an end mark too early, or anything else where it is due. */
+static void ends_misplaced(volume *v) {
+    for (int f = 0; f < FILES; f++) {
+        unsigned last = last_block(v, f), links[3] = {last, (unsigned)v->s->first, (unsigned)v->s->blocks - 1};
+        for (int k = 0; k < STRAY_VALUES; k++) {
+            set_value(v->image, last, stray_value(v->s, k));
+            CHECK(answers(v, 7, 9 * (size_t)f));
+        }
+        for (int k = 0; k < 3; k++) {
+            set_value(v->image, last, links[k]);
+            CHECK(answers(v, 7, 9 * (size_t)f));
+        }
+        for (size_t i = 0; i + 1 < blocks_for(FILE_LENGTHS[f]); i++) {
+            set_value(v->image, v->chains[f][i], v->s->end);
+            CHECK(answers(v, 7, 9 * (size_t)f));
+        }
+    }
+}
+
+/* 7 too: a length that needs more or fewer blocks than the chain has; lengths of the same number of blocks are as good as the file's own. */
+static void lengths_misfit(volume *v) {
+    for (int f = 0; f < FILES; f++) {
+        size_t full = 1024 * blocks_for(FILE_LENGTHS[f]), lengths[4] = {full + 1, 16777215, full, full - 1023};
+        for (int k = 0; k < 4; k++) {
+            set_length(entry(v, f), lengths[k]);
+            CHECK(answers(v, k < 2 ? 7 : 0, k < 2 ? 9 * (size_t)f : 0));
+        }
+        if (full > 1024) {
+            set_length(entry(v, f), full - 1024);
+            CHECK(answers(v, 7, 9 * (size_t)f));
+        }
+        set_length(entry(v, f), 16777215);
+        set_value(v->image, last_block(v, f), v->chains[f][0]); /* round and round */
+        CHECK(answers(v, 7, 9 * (size_t)f));
+    }
+}
+
+/* 8: one file begins on another's chain, at any of its blocks, or ends there; the later slot is the place. */
+static void blocks_shared(volume *v) {
+    for (int f = 0; f < FILES; f++)
+        for (int g = 0; g < FILES; g++) {
+            size_t count = blocks_for(FILE_LENGTHS[f]), own = blocks_for(FILE_LENGTHS[g]);
+            for (size_t i = 0; i < count && f != g; i++) {
+                set_start(entry(v, g), v->chains[f][i]);
+                set_length(entry(v, g), 1024 * (count - i));
+                CHECK(answers(v, 8, later(f, g)));
+            }
+            if (f != g && own > 1) {
+                set_value(v->image, v->chains[g][own - 2], last_block(v, f));
+                CHECK(answers(v, 8, later(f, g)));
+            }
+        }
+    for (int g = 2; g < FILES; g += 2)
+        memcpy(entry(v, g) + 17, entry(v, 1) + 17, 5);
+    CHECK(answers(v, 8, 9 * 2));
+}
+
+/* ---- two faults at once */
+
+/* Makes a fault of a number with file f, which isn't file 0; gives its place. */
+static size_t make_fault(volume *v, uint32_t number, int f) {
+    uint8_t *e = entry(v, f);
+    unsigned system = (unsigned)(f % v->s->first), stray = scattered(v->s, v->used + (size_t)f);
+    switch (number) {
+    case 2:
+        e[22] = 1;
+        return 0;
+    case 3:
+        set_value(v->image, system, 16385);
+        return system;
+    case 4:
+        e[16] = 1;
+        break;
+    case 5:
+        memcpy(e, entry(v, 0), 16);
+        break;
+    case 6:
+        set_start(e, 0);
+        break;
+    case 7:
+        set_value(v->image, last_block(v, f), 0);
+        break;
+    case 8:
+        memcpy(e + 17, entry(v, 0) + 17, 5);
+        break;
+    default:
+        set_value(v->image, stray, v->s->end);
+        return stray;
+    }
+    return 9 * (size_t)f;
+}
+
+/* The number that is asked first is given; 6 and 7 are asked together, and of two alike the lower place is given. */
+static void both_faults(volume *v, uint32_t a, int f, uint32_t b, int g) {
+    size_t at = make_fault(v, a, f), other = make_fault(v, b, g);
+    bool alike = a == b || (a == 6 && b == 7), first = !alike || at <= other;
+    CHECK(answers(v, first ? a : b, first ? at : other));
+}
+
+/* Every two numbers with every two files, and every one alone; on S900 disks there is no 3. */
+static void two_faults(volume *v) {
+    for (uint32_t a = 2; a <= 9; a++)
+        for (uint32_t b = a; b <= 9; b++)
+            for (int f = 1; f < FILES; f++)
+                for (int g = 1; g < FILES; g++)
+                    if ((f != g || a == b) && (v->s->kind == 1000 || (a != 3 && b != 3)))
+                        both_faults(v, a, f, b, g);
+}
+
+/* ---- other lengths, and noise */
+
+static void fill(uint8_t *image, size_t n) {
+    for (size_t i = 0; i < n; i++)
+        image[i] = (uint8_t)next_random();
+}
+
 static void noise(void) {
-    any_bytes(NULL, 0);
+    CHECK(read_any(NULL, 0).refusal == 1);
     static const size_t legal[] = {819200, 1638400};
     for (int z = 0; z < 2; z++)
         for (size_t n = legal[z] - 3; n <= legal[z] + 3; n++) {
             uint8_t *image = guarded(n);
             memset(image, 0, n);
-            any_bytes(image, n);
-            CHECK(sj_check(image, n).refusal == (n == legal[z] ? 0u : 1u));
+            CHECK(read_any(image, n).refusal == (n == legal[z] ? 0u : 1u));
             release(image, n);
         }
     for (size_t n = 1; n < 6000; n += 61) {
         uint8_t *image = guarded(n);
-        for (size_t i = 0; i < n; i++)
-            image[i] = (uint8_t)next_random();
-        any_bytes(image, n);
+        fill(image, n);
+        CHECK(read_any(image, n).refusal == 1);
         release(image, n);
     }
     for (int turn = 0; turn < 400; turn++) {
         const shape *s = &SHAPES[turn % 4];
         size_t n = 1024 * (size_t)s->blocks;
         uint8_t *image = guarded(n);
-        memset(image, 0, n);
         make_blank(image, s);
         for (int k = turn / 4; k > 0; k--)
             image[next_random() % 4736] = (uint8_t)next_random();
-        any_bytes(image, n);
+        read_any(image, n);
         release(image, n);
     }
 }
@@ -205,6 +424,12 @@ int main(void) {
         volume v;
         make_volume(&v, &SHAPES[k % 4], k >= 4);
         whole_disk(&v);
+        names_twice(&v);
+        chains_left(&v);
+        ends_misplaced(&v);
+        lengths_misfit(&v);
+        blocks_shared(&v);
+        two_faults(&v);
         CHECK(memcmp(v.image, v.made, v.n) == 0);
         drop_volume(&v);
     }

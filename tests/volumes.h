@@ -56,4 +56,6 @@ static inline void drop_volume(volume *v) {
     release(v->image, v->n);
 }
 
+static inline uint8_t *entry(volume *v, int f) { return v->image + 24 * 9 * f; }
+
 #endif
