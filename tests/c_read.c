@@ -384,6 +384,20 @@ static void two_faults(volume *v) {
                         both_faults(v, a, f, b, g);
 }
 
+/* ---- damage at random */
+
+/* One to three changes each time; every refusal that a disk of this length can get is met. */
+static void random_damage(volume *v) {
+    size_t met[10] = {0};
+    for (int turn = 0; turn < 3000; turn++) {
+        for (int k = turn % 3; k >= 0; k--)
+            damage(v);
+        met[read_any(v->image, v->n).refusal]++;
+        memcpy(v->image, v->made, HEAD);
+    }
+    all_met(v->s, met);
+}
+
 /* ---- other lengths, and noise */
 
 static void fill(uint8_t *image, size_t n) {
@@ -407,16 +421,6 @@ static void noise(void) {
         CHECK(read_any(image, n).refusal == 1);
         release(image, n);
     }
-    for (int turn = 0; turn < 400; turn++) {
-        const shape *s = &SHAPES[turn % 4];
-        size_t n = 1024 * (size_t)s->blocks;
-        uint8_t *image = guarded(n);
-        make_blank(image, s);
-        for (int k = turn / 4; k > 0; k--)
-            image[next_random() % 4736] = (uint8_t)next_random();
-        read_any(image, n);
-        release(image, n);
-    }
 }
 
 int main(void) {
@@ -430,6 +434,7 @@ int main(void) {
         lengths_misfit(&v);
         blocks_shared(&v);
         two_faults(&v);
+        random_damage(&v);
         CHECK(memcmp(v.image, v.made, v.n) == 0);
         drop_volume(&v);
     }

@@ -1,4 +1,4 @@
-/* Disks that hold files, file f in slot 9f. */
+/* Disks that hold files, file f in slot 9f, and damage to them. */
 #ifndef VOLUMES_H
 #define VOLUMES_H
 
@@ -57,5 +57,44 @@ static inline void drop_volume(volume *v) {
 }
 
 static inline uint8_t *entry(volume *v, int f) { return v->image + 24 * 9 * f; }
+
+/* One change at random. Names, lengths and starts are taken from files too, since noise hardly ever meets those. */
+static inline void damage(volume *v) {
+    uint8_t *to = entry(v, (int)(next_random() % FILES)), *from = entry(v, (int)(next_random() % FILES));
+    unsigned blocks = (unsigned)v->s->blocks, block = next_random() % (next_random() % 8 ? blocks : 8), other = next_random() % blocks;
+    unsigned value = get_value(v->image, block);
+    switch (next_random() % 8) {
+    case 0:
+        v->image[next_random() % 1536] = (uint8_t)next_random();
+        break;
+    case 1:
+        v->image[1536 + next_random() % (2 * blocks)] = (uint8_t)next_random();
+        break;
+    case 2:
+        memmove(to, from, 16);
+        break;
+    case 3:
+        memmove(to + 17, from + 17, 5);
+        break;
+    case 4:
+        memmove(to + 17, from + 17, 3);
+        break;
+    case 5:
+        memmove(v->image + 24 * (next_random() % 64), from, 22);
+        break;
+    case 6:
+        set_value(v->image, block, next_random() % 4 ? other : v->s->end);
+        break;
+    default:
+        set_value(v->image, block, get_value(v->image, other));
+        set_value(v->image, other, value);
+    }
+}
+
+/* Every refusal that a disk of a legal length can get was met, and none at times; 3 is for S1000 disks. */
+static inline void all_met(const shape *s, const size_t *met) {
+    for (int number = 0; number <= 9; number++)
+        CHECK((met[number] > 0) == (number != 1 && (number != 3 || s->kind == 1000)));
+}
 
 #endif
