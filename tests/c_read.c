@@ -400,27 +400,55 @@ static void random_damage(volume *v) {
 
 /* ---- other lengths, and noise */
 
+/* Lengths about both legal ones: the disk is cut there, or filled up to there. */
+static void cut_disk(const volume *v) {
+    static const size_t legal[] = {819200, 1638400};
+    for (int z = 0; z < 2; z++)
+        for (size_t n = legal[z] - 3; n <= legal[z] + 3; n++) {
+            uint8_t *image = guarded(n);
+            memset(image, 0xE5, n);
+            memcpy(image, v->made, n < v->n ? n : v->n);
+            sj_checked c = read_any(image, n);
+            CHECK((c.refusal == 1) == (n != legal[z]) && (c.refusal != 1 || c.place == 0));
+            CHECK(n != v->n || c.refusal == 0);
+            release(image, n);
+        }
+}
+
 static void fill(uint8_t *image, size_t n) {
     for (size_t i = 0; i < n; i++)
         image[i] = (uint8_t)next_random();
 }
 
+/* Noise of both legal lengths, then with the identities and the system values put right, so that the rules after them are asked as well. */
+static void legal_noise(const shape *s) {
+    size_t n = 1024 * (size_t)s->blocks;
+    uint8_t *image = guarded(n);
+    fill(image, n);
+    sj_checked c = read_any(image, n);
+    CHECK(c.refusal == 2 && c.place == 0);
+    for (int slot = 0; slot < 64; slot++) {
+        image[24 * slot + 22] = 0;
+        image[24 * slot + 23] = s->kind == 900 ? 0 : 3;
+    }
+    c = read_any(image, n);
+    CHECK(c.refusal == (s->kind == 900 ? 4u : 3u));
+    for (int block = 0; block < s->first; block++)
+        set_value(image, (unsigned)block, 16384);
+    CHECK(read_any(image, n).refusal == 4);
+    release(image, n);
+}
+
 static void noise(void) {
     CHECK(read_any(NULL, 0).refusal == 1);
-    static const size_t legal[] = {819200, 1638400};
-    for (int z = 0; z < 2; z++)
-        for (size_t n = legal[z] - 3; n <= legal[z] + 3; n++) {
-            uint8_t *image = guarded(n);
-            memset(image, 0, n);
-            CHECK(read_any(image, n).refusal == (n == legal[z] ? 0u : 1u));
-            release(image, n);
-        }
     for (size_t n = 1; n < 6000; n += 61) {
         uint8_t *image = guarded(n);
         fill(image, n);
         CHECK(read_any(image, n).refusal == 1);
         release(image, n);
     }
+    for (int k = 0; k < 12; k++)
+        legal_noise(&SHAPES[k % 4]);
 }
 
 int main(void) {
@@ -435,6 +463,7 @@ int main(void) {
         blocks_shared(&v);
         two_faults(&v);
         random_damage(&v);
+        cut_disk(&v);
         CHECK(memcmp(v.image, v.made, v.n) == 0);
         drop_volume(&v);
     }
