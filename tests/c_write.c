@@ -1,7 +1,7 @@
-/* Sequences of calls from C against a plain record of files: after each call the image is accepted, every file pages back, and a refused call
- * leaves the image as it was. */
-#include "disks.h"
+/* Sequences of calls from C against a plain record of files: after each call the image is, byte by byte, what the call has to leave; it is
+ * accepted, and every file pages back. A refused call leaves the image as it was. */
 #include "skilletjay.h"
+#include "volumes.h"
 
 typedef struct {
     bool used;
@@ -14,11 +14,11 @@ typedef struct {
 typedef struct {
     const shape *s;
     size_t n;
-    uint8_t *image, *before;
+    uint8_t *image, *due; /* due: the image that the calls so far have to leave */
     file files[64];
 } disk;
 
-static size_t blocks_for(size_t length) { return (length + 1023) / 1024; }
+/* ---- the record */
 
 static size_t free_blocks(const disk *d) {
     size_t free = (size_t)(d->s->blocks - d->s->first);
@@ -47,78 +47,117 @@ static int empty_slot(const disk *d) {
     return -1;
 }
 
-/* The image holds the record: the check's counts, one slot listed, one file paged whole. */
-static void compare(const disk *d, int slot) {
-    size_t count = 0;
-    for (int k = 0; k < 64; k++)
-        count += d->files[k].used;
-    sj_checked c = sj_check(d->image, d->n);
-    CHECK(c.refusal == 0 && c.files == count && c.free == free_blocks(d));
-    CHECK(c.kind == (uint32_t)d->s->kind && c.density == (d->s->blocks == 1600));
+static void record_file(disk *d, int slot, const char *name, uint8_t type, const uint8_t *content, size_t length) {
+    file *to = &d->files[slot];
+    to->used = true;
+    snprintf(to->name, sizeof to->name, "%s", name);
+    to->type = type;
+    to->length = length;
+    to->content = malloc(length);
+    CHECK(to->content);
+    memcpy(to->content, content, length);
+}
+
+/* The image that a put of the recorded file has to leave: the lowest free blocks in rising order, zeros after the content. */
+static void due_put(disk *d, int slot) {
+    const file *f = &d->files[slot];
+    unsigned blocks[1600];
+    size_t count = 0, whole = blocks_for(f->length);
+    for (unsigned block = (unsigned)d->s->first; count < whole; block++)
+        if (get_value(d->due, block) == 0)
+            blocks[count++] = block;
+    add_file(d->due, d->s, slot, f->name, blocks, f->content, f->length);
+    d->due[24 * slot + 16] = f->type;
+    memset(d->due + 1024 * (size_t)(blocks[whole - 1] + 1) - (1024 * whole - f->length), 0, 1024 * whole - f->length);
+}
+
+/* The image that a removal has to leave: the slot is zeros but for its identity, the chain's blocks are free. */
+static void due_remove(disk *d, int slot) {
+    unsigned block = d->due[24 * slot + 20] + 256u * d->due[24 * slot + 21];
+    for (size_t k = blocks_for(d->files[slot].length); k > 0; k--) {
+        unsigned next = get_value(d->due, block);
+        set_value(d->due, block, 0);
+        block = next;
+    }
+    memset(d->due + 24 * slot, 0, 22);
+}
+
+/* ---- the calls, each held to the record */
+
+static void same_image(const disk *d) { CHECK(memcmp(d->due, d->image, d->n) == 0); }
+
+static void put(disk *d, const char *name, uint8_t type, size_t length) {
+    bool legal = legal_name(d, name) && (d->s->kind == 900 ? type >= 'A' && type <= 'Z' : type >= 'a' && type <= 'z');
+    uint8_t *content = edge(0, length);
+    for (size_t i = 0; i < length; i++)
+        content[i] = (uint8_t)next_random();
+    int same = slot_of(d, name), slot = empty_slot(d);
+    uint32_t want = !legal ? 11 : length == 0 ? 13 : same >= 0 ? 12 : slot < 0 ? 14 : blocks_for(length) > free_blocks(d) ? 15 : 0;
+    sj_found f = sj_put(d->image, d->n, at_edge(1, name, strlen(name)), strlen(name), type, content, length);
+    CHECK(f.refusal == want && f.place == (want == 12 ? (size_t)same : 0) && f.slot == (want ? 0 : (size_t)slot));
+    if (!want) {
+        record_file(d, slot, name, type, content, length);
+        due_put(d, slot);
+    }
+    same_image(d);
+}
+
+static void take_away(disk *d, const char *name) {
+    int slot = slot_of(d, name);
+    sj_done r = sj_remove(d->image, d->n, at_edge(1, name, strlen(name)), strlen(name));
+    CHECK(r.refusal == (!legal_name(d, name) ? 11u : slot < 0 ? 10u : 0u) && r.place == 0);
+    if (slot >= 0) {
+        due_remove(d, slot);
+        free(d->files[slot].content);
+        d->files[slot].used = false;
+    }
+    same_image(d);
+}
+
+/* A slot of the image holds the record's file: it lists, and pages whole. */
+static void compare_slot(const disk *d, int slot) {
     const file *f = &d->files[slot];
     sj_listed l = sj_list(d->image, d->n, (size_t)slot);
     CHECK(l.refusal == (f->used ? 0u : 10u));
     if (!f->used)
         return;
     CHECK(l.type == f->type && l.length == f->length && memcmp(l.name, f->name, (size_t)d->s->letters) == 0);
-    uint8_t *out = guarded(f->length + 5);
+    uint8_t *out = edge(2, f->length + 5);
     memset(out, 0x5A, f->length + 5);
     sj_paged p = sj_page(d->image, d->n, (size_t)slot, 0, out, f->length + 5);
     CHECK(p.refusal == 0 && p.count == f->length && p.end);
     CHECK(memcmp(out, f->content, f->length) == 0 && out[f->length] == 0x5A && out[f->length + 4] == 0x5A);
-    release(out, f->length + 5);
 }
 
-static void put(disk *d, const char *name, uint8_t type, size_t length) {
-    bool legal = legal_name(d, name) && (d->s->kind == 900 ? type >= 'A' && type <= 'Z' : type >= 'a' && type <= 'z');
-    uint8_t *content = guarded(length);
-    for (size_t i = 0; i < length; i++)
-        content[i] = (uint8_t)next_random();
-    int same = slot_of(d, name), slot = empty_slot(d);
-    uint32_t want = !legal ? 11 : length == 0 ? 13 : same >= 0 ? 12 : slot < 0 ? 14 : blocks_for(length) > free_blocks(d) ? 15 : 0;
-    memcpy(d->before, d->image, d->n);
-    sj_found f = sj_put(d->image, d->n, (const uint8_t *)name, strlen(name), type, content, length);
-    CHECK(f.refusal == want && f.place == (want == 12 ? (size_t)same : 0));
-    if (want) {
-        CHECK(f.slot == 0 && memcmp(d->before, d->image, d->n) == 0);
-    } else {
-        file *to = &d->files[slot];
-        CHECK(f.slot == (size_t)slot);
-        to->used = true;
-        snprintf(to->name, sizeof to->name, "%s", name);
-        to->type = type;
-        to->length = length;
-        to->content = malloc(length);
-        CHECK(to->content);
-        memcpy(to->content, content, length);
-        /* the rest of the last block is zeros */
-        unsigned block = d->image[24 * slot + 20] + 256u * d->image[24 * slot + 21];
-        while (get_value(d->image, block) != d->s->end) {
-            CHECK(get_value(d->image, block) > block);
-            block = get_value(d->image, block);
-        }
-        for (size_t i = (length - 1) % 1024 + 1; i < 1024; i++)
-            CHECK(d->image[1024 * (size_t)block + i] == 0);
+static void compare(const disk *d) {
+    size_t count = 0;
+    for (int slot = 0; slot < 64; slot++) {
+        count += d->files[slot].used;
+        compare_slot(d, slot);
     }
-    release(content, length);
+    sj_checked c = sj_check(d->image, d->n);
+    CHECK(c.refusal == 0 && c.files == count && c.free == free_blocks(d));
+    CHECK(c.kind == (uint32_t)d->s->kind && c.density == (d->s->blocks == 1600));
 }
 
-static void take_away(disk *d, const char *name) {
-    int slot = slot_of(d, name);
-    bool legal = legal_name(d, name);
-    memcpy(d->before, d->image, d->n);
-    sj_done r = sj_remove(d->image, d->n, (const uint8_t *)name, strlen(name));
-    CHECK(r.refusal == (!legal ? 11u : slot < 0 ? 10u : 0u) && r.place == 0);
-    if (slot < 0) {
-        CHECK(memcmp(d->before, d->image, d->n) == 0);
-        return;
-    }
-    for (size_t i = 0; i < 22; i++)
-        CHECK(d->image[24 * slot + i] == 0);
-    CHECK(memcmp(d->before + 24 * slot + 22, d->image + 24 * slot + 22, 2) == 0);
-    CHECK(memcmp(d->before + 1024 * d->s->first, d->image + 1024 * d->s->first, d->n - 1024 * (size_t)d->s->first) == 0);
-    free(d->files[slot].content);
-    d->files[slot].used = false;
+/* ---- sequences */
+
+static void start(disk *d, const shape *s) {
+    *d = (disk){.s = s, .n = 1024 * (size_t)s->blocks};
+    d->image = guarded(d->n);
+    d->due = malloc(d->n);
+    CHECK(d->due);
+    make_blank(d->image, s);
+    memcpy(d->due, d->image, d->n);
+}
+
+static void finish(disk *d) {
+    compare(d);
+    for (int slot = 0; slot < 64; slot++)
+        if (d->files[slot].used)
+            free(d->files[slot].content);
+    free(d->due);
+    release(d->image, d->n);
 }
 
 /* A name of the kind's length, or nearly. */
@@ -144,13 +183,20 @@ static size_t random_length(const disk *d) {
     }
 }
 
-static void sequence(const shape *s, int calls) {
-    disk d = {.s = s, .n = 1024 * (size_t)s->blocks};
+/* Removes files that are there: names at random are seldom those of one. */
+static void thin_out(disk *d) {
     char name[13];
-    d.image = guarded(d.n);
-    d.before = malloc(d.n);
-    CHECK(d.before);
-    make_blank(d.image, s);
+    for (int slot = 0; slot < 64; slot += 1 + (int)(next_random() % 40))
+        if (d->files[slot].used) {
+            snprintf(name, sizeof name, "%s", d->files[slot].name);
+            take_away(d, name);
+        }
+}
+
+static void sequence(const shape *s, int calls) {
+    disk d;
+    char name[13];
+    start(&d, s);
     for (int k = 0; k < calls; k++) {
         random_name(&d, name);
         bool filling = k % 600 < 400;
@@ -159,41 +205,26 @@ static void sequence(const shape *s, int calls) {
         else if (next_random() % 4)
             take_away(&d, name);
         else
-            for (int slot = 0; slot < 64; slot += 1 + (int)(next_random() % 40))
-                if (d.files[slot].used) {
-                    snprintf(name, sizeof name, "%s", d.files[slot].name);
-                    take_away(&d, name);
-                }
-        for (int slot = 0; slot < 64; slot++)
-            compare(&d, slot);
+            thin_out(&d);
+        compare(&d);
     }
-    for (int slot = 0; slot < 64; slot++)
-        if (d.files[slot].used)
-            free(d.files[slot].content);
-    free(d.before);
-    release(d.image, d.n);
+    finish(&d);
 }
 
 /* Small files only, so that the directory fills: 14. */
 static void full_directory(const shape *s) {
-    disk d = {.s = s, .n = 1024 * (size_t)s->blocks};
-    d.image = guarded(d.n);
-    d.before = malloc(d.n);
-    CHECK(d.before);
-    make_blank(d.image, s);
+    disk d;
+    start(&d, s);
     for (int k = 0; k < 66; k++) {
         char name[13];
         snprintf(name, sizeof name, "%c%c%*s", 'A' + k % 26, 'A' + k / 26, s->letters - 2, "");
         put(&d, name, s->kind == 900 ? 'S' : 's', 1 + 100 * (size_t)k);
     }
     CHECK(empty_slot(&d) < 0);
-    for (int slot = 0; slot < 64; slot++) {
-        compare(&d, slot);
-        free(d.files[slot].content);
-    }
-    free(d.before);
-    release(d.image, d.n);
+    finish(&d);
 }
+
+/* ---- refused images */
 
 /* A refused image is refused first, whatever the arguments, and kept. */
 static void refused_images(void) {
