@@ -15,6 +15,7 @@ typedef struct {
     const shape *s;
     size_t n;
     uint8_t *image, *due; /* due: the image that the calls so far have to leave */
+    uint8_t head[HEAD];   /* as it was before the first call */
     file files[64];
 } disk;
 
@@ -140,18 +141,40 @@ static void compare(const disk *d) {
     CHECK(c.kind == (uint32_t)d->s->kind && c.density == (d->s->blocks == 1600));
 }
 
+/* What no call writes: the map below the first data block, and all between the map and that block. */
+static void kept_bytes(const disk *d) {
+    size_t map_end = 1536 + 2 * (size_t)d->s->blocks, data = 1024 * (size_t)d->s->first;
+    CHECK(memcmp(d->head + 1536, d->image + 1536, 2 * (size_t)d->s->first) == 0);
+    CHECK(memcmp(d->head + map_end, d->image + map_end, data - map_end) == 0);
+}
+
 /* ---- sequences */
 
-static void start(disk *d, const shape *s) {
+/* A disk without files, or one that holds some, with noise in the bytes that aren't read. */
+static void start(disk *d, const shape *s, bool files) {
     *d = (disk){.s = s, .n = 1024 * (size_t)s->blocks};
     d->image = guarded(d->n);
     d->due = malloc(d->n);
     CHECK(d->due);
-    make_blank(d->image, s);
+    if (files) {
+        volume v;
+        make_volume(&v, s, true);
+        memcpy(d->image, v.image, d->n);
+        for (int f = 0; f < FILES; f++) {
+            char name[13];
+            snprintf(name, sizeof name, "%-*s", s->letters, FILE_NAMES[f]);
+            record_file(d, 9 * f, name, s->kind == 900 ? 'S' : 's', v.contents[f], FILE_LENGTHS[f]);
+        }
+        drop_volume(&v);
+    } else {
+        make_blank(d->image, s);
+    }
     memcpy(d->due, d->image, d->n);
+    memcpy(d->head, d->image, HEAD);
 }
 
 static void finish(disk *d) {
+    kept_bytes(d);
     compare(d);
     for (int slot = 0; slot < 64; slot++)
         if (d->files[slot].used)
@@ -193,10 +216,11 @@ static void thin_out(disk *d) {
         }
 }
 
-static void sequence(const shape *s, int calls) {
+static void sequence(const shape *s, int calls, bool files) {
     disk d;
     char name[13];
-    start(&d, s);
+    start(&d, s, files);
+    compare(&d);
     for (int k = 0; k < calls; k++) {
         random_name(&d, name);
         bool filling = k % 600 < 400;
@@ -212,9 +236,9 @@ static void sequence(const shape *s, int calls) {
 }
 
 /* Small files only, so that the directory fills: 14. */
-static void full_directory(const shape *s) {
+static void full_directory(const shape *s, bool files) {
     disk d;
-    start(&d, s);
+    start(&d, s, files);
     for (int k = 0; k < 66; k++) {
         char name[13];
         snprintf(name, sizeof name, "%c%c%*s", 'A' + k % 26, 'A' + k / 26, s->letters - 2, "");
@@ -252,9 +276,9 @@ static void refused_images(void) {
 }
 
 int main(void) {
-    for (int k = 0; k < 4; k++) {
-        sequence(&SHAPES[k], 2500);
-        full_directory(&SHAPES[k]);
+    for (int k = 0; k < 8; k++) {
+        sequence(&SHAPES[k / 2], 2000, k % 2);
+        full_directory(&SHAPES[k / 2], k % 2);
     }
     refused_images();
     puts("c_write: ok");
