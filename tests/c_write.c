@@ -141,6 +141,23 @@ static void compare(const disk *d) {
     CHECK(c.kind == (uint32_t)d->s->kind && c.density == (d->s->blocks == 1600));
 }
 
+/* Names and contents of nothing may be null: they are refused as illegal and as empty, and the image is kept. */
+static void null_arguments(disk *d) {
+    const uint8_t type = d->s->kind == 900 ? 'S' : 's', *name = (const uint8_t *)"NULL        ", content[1] = {1};
+    size_t letters = (size_t)d->s->letters;
+    sj_found f = sj_put(d->image, d->n, NULL, 0, type, content, 1);
+    CHECK(f.refusal == 11 && f.place == 0 && f.slot == 0);
+    f = sj_put(d->image, d->n, NULL, 0, type, NULL, 0);
+    CHECK(f.refusal == 11 && f.place == 0 && f.slot == 0);
+    f = sj_put(d->image, d->n, name, letters, type, NULL, 0);
+    CHECK(f.refusal == 13 && f.place == 0 && f.slot == 0);
+    f = sj_find(d->image, d->n, NULL, 0);
+    CHECK(f.refusal == 11 && f.place == 0 && f.slot == 0);
+    sj_done r = sj_remove(d->image, d->n, NULL, 0);
+    CHECK(r.refusal == 11 && r.place == 0);
+    same_image(d);
+}
+
 /* What no call writes: the map below the first data block, and all between the map and that block. */
 static void kept_bytes(const disk *d) {
     size_t map_end = 1536 + 2 * (size_t)d->s->blocks, data = 1024 * (size_t)d->s->first;
@@ -173,9 +190,15 @@ static void start(disk *d, const shape *s, bool files) {
     memcpy(d->head, d->image, HEAD);
 }
 
-static void finish(disk *d) {
+/* The calls that are refused on any disk, before the first call of a sequence and after the last. */
+static void refused_calls(disk *d) {
+    null_arguments(d);
     kept_bytes(d);
     compare(d);
+}
+
+static void finish(disk *d) {
+    refused_calls(d);
     for (int slot = 0; slot < 64; slot++)
         if (d->files[slot].used)
             free(d->files[slot].content);
@@ -220,7 +243,7 @@ static void sequence(const shape *s, int calls, bool files) {
     disk d;
     char name[13];
     start(&d, s, files);
-    compare(&d);
+    refused_calls(&d);
     for (int k = 0; k < calls; k++) {
         random_name(&d, name);
         bool filling = k % 600 < 400;
