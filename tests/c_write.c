@@ -158,6 +158,19 @@ static void null_arguments(disk *d) {
     same_image(d);
 }
 
+/* A content that a slot's length can't tell is refused for room, as one byte less is: no disk has so many blocks, so 16 is never given. */
+static void long_contents(disk *d) {
+    size_t most = 16777216;
+    uint8_t *content = guarded(most);
+    const uint8_t *name = (const uint8_t *)"LONG        ";
+    for (size_t length = most - 1; length <= most; length++) {
+        sj_found f = sj_put(d->image, d->n, name, (size_t)d->s->letters, d->s->kind == 900 ? 'S' : 's', content + (most - length), length);
+        CHECK(f.refusal == (empty_slot(d) < 0 ? 14u : 15u) && f.place == 0 && f.slot == 0);
+    }
+    same_image(d);
+    release(content, most);
+}
+
 /* What no call writes: the map below the first data block, and all between the map and that block. */
 static void kept_bytes(const disk *d) {
     size_t map_end = 1536 + 2 * (size_t)d->s->blocks, data = 1024 * (size_t)d->s->first;
@@ -193,6 +206,7 @@ static void start(disk *d, const shape *s, bool files) {
 /* The calls that are refused on any disk, before the first call of a sequence and after the last. */
 static void refused_calls(disk *d) {
     null_arguments(d);
+    long_contents(d);
     kept_bytes(d);
     compare(d);
 }
