@@ -253,8 +253,30 @@ static void thin_out(disk *d) {
         }
 }
 
+typedef struct {
+    int slot;
+    size_t sum; /* of the counts so far */
+} download;
+
+/* The next page of a download that goes on while other files come and go. When it has ended, or its file was removed, the next slot's begins. */
+static void page_on(const disk *d, download *on) {
+    const file *f = &d->files[on->slot];
+    if (f->used) {
+        size_t size = 1 + next_random() % 3000, left = f->length - on->sum;
+        uint8_t *out = edge(2, size);
+        sj_paged p = sj_page(d->image, d->n, (size_t)on->slot, on->sum, out, size);
+        CHECK(p.refusal == 0 && p.count == (left < size ? left : size) && p.end == (p.count == left));
+        CHECK(memcmp(out, f->content + on->sum, p.count) == 0);
+        on->sum += p.count;
+        if (!p.end)
+            return;
+    }
+    *on = (download){.slot = (on->slot + 1) % 64};
+}
+
 static void sequence(const shape *s, int calls, bool files) {
     disk d;
+    download on = {0};
     char name[13];
     start(&d, s, files);
     refused_calls(&d);
@@ -267,6 +289,7 @@ static void sequence(const shape *s, int calls, bool files) {
             take_away(&d, name);
         else
             thin_out(&d);
+        page_on(&d, &on);
         compare(&d);
     }
     finish(&d);
