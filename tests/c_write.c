@@ -310,29 +310,42 @@ static void full_directory(const shape *s, bool files) {
 
 /* ---- refused images */
 
-/* A refused image is refused first, whatever the arguments, and kept. */
-static void refused_images(void) {
-    for (int k = 0; k < 200; k++) {
-        const shape *s = &SHAPES[k % 4];
-        size_t n = 1024 * (size_t)s->blocks;
-        uint8_t *image = guarded(n), *before = malloc(n);
-        CHECK(before);
-        make_blank(image, s);
-        for (int i = 0; i < 20; i++)
-            image[next_random() % 3136] ^= (uint8_t)(1 + next_random() % 255);
-        memcpy(before, image, n);
-        sj_checked c = sj_check(image, n);
-        if (c.refusal) {
-            sj_found f = sj_put(image, n, NULL, 0, 0, NULL, 0);
-            sj_done r = sj_remove(image, n, NULL, 0);
-            CHECK(f.refusal == c.refusal && f.place == c.place && r.refusal == c.refusal && r.place == c.place);
-            CHECK(memcmp(before, image, n) == 0);
-        }
-        free(before);
-        release(image, n);
+static void alike(const sj_checked *c, sj_found f, sj_done r) {
+    CHECK(f.refusal == c->refusal && f.place == c->place && f.slot == 0);
+    CHECK(r.refusal == c->refusal && r.place == c->place);
+}
+
+/* A refused image is refused first, whatever the arguments, and kept; gives the refusal. `before` is the image but for its head. */
+static uint32_t write_refused(volume *v, uint8_t *before) {
+    char name[13];
+    size_t letters = (size_t)snprintf(name, sizeof name, "%-*s", v->s->letters, FILE_NAMES[next_random() % FILES]);
+    uint8_t type = v->s->kind == 900 ? 'S' : 's', *lent = at_edge(1, name, letters), *content = at_edge(0, name, letters);
+    memcpy(before, v->image, HEAD);
+    sj_checked c = sj_check(v->image, v->n);
+    if (c.refusal) {
+        alike(&c, sj_put(v->image, v->n, lent, letters, type, content, letters), sj_remove(v->image, v->n, lent, letters));
+        alike(&c, sj_put(v->image, v->n, NULL, 0, 0, NULL, 0), sj_remove(v->image, v->n, NULL, 0));
     }
-    CHECK(sj_put(NULL, 0, NULL, 0, 0, NULL, 0).refusal == 1);
-    CHECK(sj_remove(NULL, 0, NULL, 0).refusal == 1);
+    CHECK(memcmp(before, v->image, v->n) == 0);
+    return c.refusal;
+}
+
+static void refused_images(const shape *s) {
+    size_t met[10] = {0};
+    volume v;
+    make_volume(&v, s, false);
+    uint8_t *before = malloc(v.n);
+    CHECK(before);
+    memcpy(before, v.made, v.n);
+    for (int turn = 0; turn < 1000; turn++) {
+        for (int k = turn % 3; k >= 0; k--)
+            damage(&v);
+        met[write_refused(&v, before)]++;
+        memcpy(v.image, v.made, HEAD);
+    }
+    all_met(s, met);
+    free(before);
+    drop_volume(&v);
 }
 
 int main(void) {
@@ -340,7 +353,10 @@ int main(void) {
         sequence(&SHAPES[k / 2], 2000, k % 2);
         full_directory(&SHAPES[k / 2], k % 2);
     }
-    refused_images();
+    for (int k = 0; k < 4; k++)
+        refused_images(&SHAPES[k]);
+    CHECK(sj_put(NULL, 0, NULL, 0, 0, NULL, 0).refusal == 1);
+    CHECK(sj_remove(NULL, 0, NULL, 0).refusal == 1);
     puts("c_write: ok");
     return 0;
 }
