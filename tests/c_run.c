@@ -1,7 +1,7 @@
 /* Scripts of calls from C: each reply, each page and the image are what the same calls give when they are made one by one; a script ends
  * before the first entry that is no call; script, pool and output end at pages that can't be touched. */
-#include "disks.h"
 #include "skilletjay.h"
+#include "volumes.h"
 
 enum { ENTRY = 20, PART = 1044, PAGE = 1024, CALLS = 40, POOL = 70000, NAMES = POOL - 26 * 12 };
 
@@ -119,22 +119,43 @@ static void run_nulls(uint8_t *image, size_t n) {
     CHECK(sj_run(NULL, 0, NULL, 0, NULL, 0, NULL, 0) == 0);
 }
 
+static void run_many(const shape *s) {
+    size_t n = 1024 * (size_t)s->blocks;
+    uint8_t *image = guarded(n), *other = malloc(n);
+    CHECK(other);
+    make_blank(image, s);
+    run_nulls(image, n);
+    for (int i = 0; i < 150; i++)
+        run_one(s, image, other, n);
+    CHECK(sj_check(image, n).refusal == 0);
+    free(other);
+    release(image, n);
+}
+
+/* On a refused image every call of a script is refused, and the script goes on. */
+static void run_damaged(const shape *s) {
+    size_t met[10] = {0};
+    volume v;
+    make_volume(&v, s, true);
+    uint8_t *other = malloc(v.n);
+    CHECK(other);
+    for (int turn = 0; turn < 300; turn++) {
+        for (int k = turn % 3; k >= 0; k--)
+            damage(&v);
+        met[sj_check(v.image, v.n).refusal]++;
+        run_one(s, v.image, other, v.n);
+        memcpy(v.image, v.made, v.n);
+    }
+    all_met(s, met);
+    free(other);
+    drop_volume(&v);
+}
+
 int main(void) {
     make_pool();
     for (int k = 0; k < 4; k++) {
-        const shape *s = &SHAPES[k];
-        size_t n = 1024 * (size_t)s->blocks;
-        uint8_t *image = guarded(n), *other = malloc(n);
-        CHECK(other);
-        make_blank(image, s);
-        run_nulls(image, n);
-        for (int i = 0; i < 150; i++)
-            run_one(s, image, other, n);
-        CHECK(sj_check(image, n).refusal == 0);
-        image[0] ^= 1, image[22] ^= 1; /* a refused image: every call of a script is refused */
-        run_one(s, image, other, n);
-        free(other);
-        release(image, n);
+        run_many(&SHAPES[k]);
+        run_damaged(&SHAPES[k]);
     }
     puts("c_run: ok");
     return 0;
