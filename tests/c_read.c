@@ -12,6 +12,16 @@ static void check_disk(const volume *v) {
     CHECK(c.free == (size_t)(v->s->blocks - v->s->first) - v->used);
 }
 
+/* The check asks for nothing but the length and the head: what follows the head can't be touched here. */
+static void head_only(const volume *v) {
+    size_t room = 8192 + v->n;
+    uint8_t *at = mmap(NULL, room, PROT_NONE, MAP_PRIVATE | MAP_ANONYMOUS, -1, 0);
+    CHECK(at != MAP_FAILED && mprotect(at, 8192, PROT_READ | PROT_WRITE) == 0);
+    sj_checked c = sj_check(memcpy(at + 8192 - HEAD, v->made, HEAD), v->n);
+    CHECK(c.refusal == 0 && c.place == 0 && c.files == FILES);
+    CHECK(munmap(at, room) == 0);
+}
+
 static void list_slot(const volume *v, size_t slot) {
     uint8_t name[13] = {0};
     bool there = slot % 9 == 0 && slot / 9 < FILES;
@@ -130,6 +140,7 @@ static void whole_disk(const volume *v) {
     static const size_t sizes[] = {1, 7, 1000, 1023, 1024, 1025, 2047, 4096, 65536, 200000};
     uint8_t out[1] = {9};
     check_disk(v);
+    head_only(v);
     for (size_t slot = 0; slot < 70; slot++)
         list_slot(v, slot);
     list_slot(v, SIZE_MAX - 1);
