@@ -12,16 +12,6 @@ static void check_disk(const volume *v) {
     CHECK(c.free == (size_t)(v->s->blocks - v->s->first) - v->used);
 }
 
-/* The check asks for nothing but the length and the head: what follows the head can't be touched here. */
-static void head_only(const volume *v) {
-    size_t room = 8192 + v->n;
-    uint8_t *at = mmap(NULL, room, PROT_NONE, MAP_PRIVATE | MAP_ANONYMOUS, -1, 0);
-    CHECK(at != MAP_FAILED && mprotect(at, 8192, PROT_READ | PROT_WRITE) == 0);
-    sj_checked c = sj_check(memcpy(at + 8192 - HEAD, v->made, HEAD), v->n);
-    CHECK(c.refusal == 0 && c.place == 0 && c.files == FILES);
-    CHECK(munmap(at, room) == 0);
-}
-
 static void list_slot(const volume *v, size_t slot) {
     uint8_t name[13] = {0};
     bool there = slot % 9 == 0 && slot / 9 < FILES;
@@ -99,10 +89,57 @@ static void page_limits(const volume *v, int f) {
     CHECK(p.refusal == 0 && p.count == 0 && p.end);
 }
 
+/* The blocks that hold a file, in its order, to outputs of every sort of room that end at a page which traps. */
+static void file_blocks(const volume *v, int f) {
+    size_t count = blocks_for(FILE_LENGTHS[f]), rooms[] = {0, count - 1, count, count + 1, 1600}, slot = 9 * (size_t)f;
+    for (size_t k = 0; k < sizeof rooms / sizeof *rooms; k++) {
+        uint16_t *out = (uint16_t *)(void *)edge(0, 2 * rooms[k]);
+        memset(out, 0xA5, 2 * rooms[k]);
+        sj_counted r = sj_blocks(v->image, v->n, slot, out, rooms[k]);
+        bool room = rooms[k] >= count;
+        CHECK(r.refusal == (room ? 0u : 21u) && r.place == 0 && r.count == (room ? count : 0));
+        for (size_t i = 0; i < rooms[k]; i++)
+            CHECK(out[i] == (i < r.count ? v->chains[f][i] : 0xA5A5));
+    }
+    CHECK(sj_blocks(v->image, v->n, slot, NULL, 0).refusal == 21);
+    CHECK(sj_blocks(v->image, v->n, slot + 1, NULL, 0).refusal == 10 && sj_blocks(v->image, v->n, SIZE_MAX, NULL, 0).refusal == 10);
+}
+
+/* All calls but that for a page ask for nothing but the length and the head: what follows the head can't be touched here. */
+static void head_only(const volume *v) {
+    volume head = *v;
+    size_t room = 8192 + v->n;
+    uint8_t *at = mmap(NULL, room, PROT_NONE, MAP_PRIVATE | MAP_ANONYMOUS, -1, 0);
+    CHECK(at != MAP_FAILED && mprotect(at, 8192, PROT_READ | PROT_WRITE) == 0);
+    head.image = memcpy(at + 8192 - HEAD, v->made, HEAD);
+    check_disk(&head);
+    for (size_t slot = 0; slot < 70; slot++)
+        list_slot(&head, slot);
+    for (int f = 0; f < FILES; f++) {
+        find_file(&head, f);
+        file_blocks(&head, f);
+    }
+    CHECK(munmap(at, room) == 0);
+}
+
+/* For its pages a file's own blocks are enough besides: every other block is overwritten here. */
+static void own_blocks(const volume *v, int f) {
+    volume own = *v;
+    uint16_t blocks[1600];
+    own.image = guarded(v->n);
+    memset(own.image, 0x5A, v->n);
+    memcpy(own.image, v->made, HEAD);
+    size_t count = sj_blocks(own.image, v->n, 9 * (size_t)f, blocks, 1600).count;
+    for (size_t k = 0; k < count; k++)
+        memcpy(own.image + 1024 * (size_t)blocks[k], v->made + 1024 * (size_t)blocks[k], 1024);
+    download(&own, f, 1000);
+    release(own.image, v->n);
+}
+
 /* One call of any sort, such as may stand between a download's pages. */
 static void other_call(const volume *v) {
     int f = (int)(next_random() % FILES);
-    switch (next_random() % 4) {
+    switch (next_random() % 5) {
     case 0:
         check_disk(v);
         break;
@@ -111,6 +148,9 @@ static void other_call(const volume *v) {
         break;
     case 2:
         find_file(v, f);
+        break;
+    case 3:
+        file_blocks(v, f);
         break;
     default:
         page(v, f, next_random() % (FILE_LENGTHS[f] + 1), next_random() % 3000);
@@ -146,6 +186,8 @@ static void whole_disk(const volume *v) {
     list_slot(v, SIZE_MAX - 1);
     for (int f = 0; f < FILES; f++) {
         find_file(v, f);
+        file_blocks(v, f);
+        own_blocks(v, f);
         page_limits(v, f);
         small_pages(v, f);
         for (size_t z = 0; z < sizeof sizes / sizeof *sizes; z++)
@@ -163,17 +205,20 @@ static void whole_disk(const volume *v) {
 
 /* ---- every reading call on any bytes */
 
-/* An accepted image: as many slots list as the check counted, their blocks and the free ones make the data area, each name is found in
- * its slot, and each file ends at its length. */
+/* An accepted image: as many slots list as the check counted, each name is found in its slot, each file ends at its length and has the
+ * blocks that it needs, and these and the free ones make the data area. */
 static void read_accepted(const uint8_t *image, size_t n, const sj_checked *c) {
     size_t files = 0, blocks = 0, letters = c->kind == 900 ? 10 : 12;
+    uint16_t own[1600];
     for (size_t slot = 0; slot < 64; slot++) {
         sj_listed l = sj_list(image, n, slot);
         CHECK(l.refusal == 0 || l.refusal == 10);
         if (l.refusal)
             continue;
         files++;
-        blocks += blocks_for(l.length);
+        sj_counted held = sj_blocks(image, n, slot, own, 1600);
+        CHECK(held.refusal == 0 && held.count == blocks_for(l.length));
+        blocks += held.count;
         sj_found f = sj_find(image, n, at_edge(1, l.name, letters), letters);
         CHECK(f.refusal == 0 && f.slot == slot);
         CHECK(sj_page(image, n, slot, l.length, NULL, 0).end && !sj_page(image, n, slot, 0, NULL, 0).end);
@@ -182,6 +227,8 @@ static void read_accepted(const uint8_t *image, size_t n, const sj_checked *c) {
 }
 
 static void same_found(sj_found f, const sj_checked *c) { CHECK(f.refusal == c->refusal && f.place == c->place && f.slot == 0); }
+
+static void same_counted(sj_counted r, const sj_checked *c) { CHECK(r.refusal == c->refusal && r.place == c->place && r.count == 0); }
 
 static void same_paged(sj_paged p, const sj_checked *c) { CHECK(p.refusal == c->refusal && p.place == c->place && p.count == 0 && !p.end); }
 
@@ -201,9 +248,11 @@ static void read_refused(const uint8_t *image, size_t n, const sj_checked *c) {
     uint8_t *out = edge(0, room);
     memset(out, 7, room);
     same_paged(sj_page(image, n, slot, offset, out, room), c);
+    same_counted(sj_blocks(image, n, slot, (uint16_t *)(void *)(out + room % 2), room / 2), c);
     for (size_t i = 0; i < room; i++)
         CHECK(out[i] == 7);
     same_paged(sj_page(image, n, slot, offset, NULL, 0), c);
+    same_counted(sj_blocks(image, n, slot, NULL, 0), c);
 }
 
 /* Gives the check's answer, after every other call was held to it and the image's head was seen to be kept. */
