@@ -93,11 +93,13 @@ impl Opened {
     }
 }
 
-/// Whether two paths lead to one file.
-pub fn are_one(path: &Path, other: &Path) -> bool {
-    match (fs::metadata(path), fs::metadata(other)) {
-        (Ok(one), Ok(other)) => identity(&one) == identity(&other),
-        _ => false,
+/// A file that is read is never replaced by what is made of it.
+pub fn refuse_itself(read: &Path, to: &Path) -> Result<(), Failure> {
+    match (fs::metadata(read), fs::metadata(to)) {
+        (Ok(one), Ok(other)) if identity(&one) == identity(&other) => {
+            Err(Failure::File(format!("{} is the file that is read; take another name", to.display())))
+        }
+        _ => Ok(()),
     }
 }
 

@@ -23,6 +23,21 @@ fn samples_go_to_wav_and_back() {
     assert_eq!(folder.names(), ["a", "a.wav", "back"]);
 }
 
+/// Neither a sample nor a WAV file is lost to what is made of it; a header's sample may be packed anew.
+#[test]
+fn no_file_is_replaced_by_what_is_made_of_it() {
+    let folder = Folder::new("itself");
+    let file = files::sample(Kind::S1000, 10, &mut Random::new(3));
+    folder.write("a", &file);
+    folder.sj(&["unpack", "a", "-o", "./a"]).failed(2, &["./a is the file that is read"]);
+    folder.sj(&["unpack", "a", "-o", "a.wav"]).done();
+    folder
+        .sj(&["pack", "a.wav", "--like", "a", "-o", "a.wav"])
+        .failed(2, &["a.wav is the file that is read"]);
+    folder.sj(&["pack", "a.wav", "--like", "a", "-o", "a"]).done();
+    assert!(folder.read("a") == file && folder.read("a.wav").len() == 44 + 20);
+}
+
 /// A sample of 500 words whose markers, at these offsets, are as given.
 fn marked(kind: Kind, markers: &[(usize, u32)], random: &mut Random) -> Vec<u8> {
     let mut file = files::sample(kind, 500, random);

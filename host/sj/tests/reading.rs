@@ -168,9 +168,9 @@ fn get_never_replaces_its_image() {
     folder.write("DISK.I", &image);
     symlink("DISK.I", folder.0.join("link")).expect("link");
     for words in [&["#0", "-o", "DISK.I"][..], &["DISK", "-o", "link"], &["#0", "--force"]] {
-        folder.sj(&[&["get", "DISK.I"], words].concat()).failed(2, &["is the image itself"]);
+        folder.sj(&[&["get", "DISK.I"], words].concat()).failed(2, &["is the file that is read"]);
     }
-    folder.sj(&["get", "link", "--all", "-o", ".", "--force"]).failed(2, &["is the image itself"]);
+    folder.sj(&["get", "link", "--all", "-o", ".", "--force"]).failed(2, &["is the file that is read"]);
     assert!(folder.read("DISK.I") == image);
     assert_eq!(folder.names(), ["DISK.I", "link"]);
 }

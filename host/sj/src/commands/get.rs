@@ -70,9 +70,7 @@ fn get_all(path: &Path, image: &Image, folder: &Path, force: bool) -> Result<(),
 
 /// A name that sj chose never replaces a file unasked, and no name replaces the image that is read.
 fn free_to_write(image: &Path, to: &Path, replace: bool) -> Result<(), Failure> {
-    if image_file::are_one(image, to) {
-        return Err(Failure::File(format!("{} is the image itself; take another name", to.display())));
-    }
+    image_file::refuse_itself(image, to)?;
     if !replace && to.symlink_metadata().is_ok() {
         return Err(Failure::File(format!("{} is there already; --force replaces it", to.display())));
     }

@@ -34,6 +34,7 @@ pub fn unpack(arguments: &mut Arguments) -> Result<(), Failure> {
     let to = PathBuf::from(arguments.needed("-o")?);
     let path = arguments.path("the sample file")?;
     arguments.end()?;
+    image_file::refuse_itself(&path, &to)?;
     let (kind, file, mut words) = read_sample(&path)?;
     if kind == Kind::S900 {
         words.iter_mut().for_each(|word| *word <<= SHIFT);
@@ -49,6 +50,7 @@ pub fn pack(arguments: &mut Arguments) -> Result<(), Failure> {
     let like = PathBuf::from(arguments.needed("--like")?);
     let path = arguments.path("the WAV file")?;
     arguments.end()?;
+    image_file::refuse_itself(&path, &to)?;
     let name = path.display().to_string();
     let wav = read_wav(&name, &path)?;
     let (kind, file, _) = read_sample(&like)?;
