@@ -6,7 +6,7 @@ use crate::table::Table;
 use model::files;
 use model::layout::Kind;
 use model::random::Random;
-use skilletjay::{lend, raw};
+use skilletjay::lend;
 use std::ffi::c_void;
 use std::hint::black_box;
 
@@ -41,31 +41,20 @@ fn disk_calls() -> Vec<(&'static str, usize)> {
     let (kind, blocks) = (Kind::S1000, high(Kind::S1000).data_blocks());
     let mut image = disk(kind, 63, blocks - 8, Order::Scattered);
     let (held, put, content) = (name(kind, 5), name(kind, 90), vec![1; 8000]);
-    let (mut out, mut answers) = (vec![0; 1 << 16], vec![0; 1044]);
+    let (mut out, mut blocks, mut answers) = (vec![0; 1 << 16], vec![0; 1600], vec![0; 1044]);
     let pool = [put.clone(), content.clone()].concat();
     // Puts the content, which stands in the pool after the name.
     let script = [4, b's', 0, 0, 0, 0, 0, 0, 12, 0, 0, 0, 12, 0, 0, 0, 64, 31, 0, 0];
     vec![
         ("check", used(|| assert_eq!(LIBRARY.check(&image).refusal, 0))),
         ("list", used(|| assert_eq!(lend::list(&image, 5).refusal, 0))),
-        ("find", used(|| assert_eq!(find(&image, &held), 0))),
+        ("find", used(|| assert_eq!(lend::find(&image, &held).refusal, 0))),
         ("page", used(|| assert_eq!(lend::page(&image, 5, 0, &mut out).refusal, 0))),
+        ("blocks", used(|| assert_eq!(lend::blocks(&image, 5, &mut blocks).refusal, 0))),
         ("put", used(|| assert_eq!(LIBRARY.put(&mut image, &put, b's', &content).refusal, 0))),
         ("remove", used(|| assert_eq!(LIBRARY.remove(&mut image, &put).refusal, 0))),
-        ("run", used(|| assert_eq!(run_script(&mut image, &script, &pool, &mut answers), 1))),
+        ("run", used(|| assert_eq!(lend::run(&mut image, &script, &pool, &mut answers), 1))),
     ]
-}
-
-/// Not by `lend`, which copies the name: that would be counted too.
-fn find(image: &[u8], name: &[u8]) -> u32 {
-    // SAFETY: both are readable for their lengths and lie apart.
-    unsafe { raw::sj_find(image.as_ptr(), image.len(), name.as_ptr(), name.len()).refusal }
-}
-
-fn run_script(image: &mut [u8], script: &[u8], pool: &[u8], out: &mut [u8]) -> usize {
-    let (image, length, out, room) = (image.as_mut_ptr(), image.len(), out.as_mut_ptr(), out.len());
-    // SAFETY: all four are lent for their lengths and lie apart.
-    unsafe { raw::sj_run(image, length, script.as_ptr(), script.len(), pool.as_ptr(), pool.len(), out, room) }
 }
 
 fn file_calls() -> Vec<(&'static str, usize)> {
