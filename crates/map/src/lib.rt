@@ -48,7 +48,7 @@ pub fn is_link(layout: layout::Layout, value: usize) -> bool
     value < layout.blocks
 }
 
-// Walks the chain from a start with so many links, to its first fault.
+// Walks the chain from a start with so many links, to its first fault. The check has this walk within its loop over the slots (chains).
 pub fn walk_chain(image: &[u8], layout: layout::Layout, links: usize, start: usize) -> Walk
     requires { ⌜ Fits layout (now image) ⌝ }
     ensures { λ r. ⌜ r ≡ walk layout (mapAt (bytes (now (image .entry)))) links start ⌝ }
