@@ -1,5 +1,6 @@
 // S900 and S1000 sample files: unpacked to words, and packed. The two calls ask nothing of their caller; the other functions are theirs alone.
 ghost use mathlib.Core.Path.{_≡_};
+ghost use mathlib.Core.List.{map};
 ghost use Prim.Native.Nat.{_+_, _*_, _/_, _%_, _≤_, _<_};
 ghost use lib.Dec.{eqb};
 ghost use lib.ListN.{length};
@@ -10,7 +11,7 @@ ghost use Rattle.laws.specs.Splice.{splice};
 ghost use Rattle.laws.specs.Reader.{bytes, tab};
 ghost use Rattle.blocks.specs.Numbers.{Number};
 ghost use Rattle.words.specs.Parts.{parts};
-ghost use Rattle.words.specs.Words.{bitsOf, wordOf, pairAt, upperBits, packed900, unpacked900};
+ghost use Rattle.words.specs.Words.{bitsOf, wordOf, firstBits, secondBits, pairAt, upperBits, packed900, unpacked900};
 ghost use Rattle.samples.specs.Samples.{headerSize, countOffset, tableOf, dataSize, isWhole, packed1000, unpacked1000, packed, unpacked, headFault, fileFault, headerFault, isShort, isOutside, rangeFault, filled, unpackOf, packOf};
 use headers::Counted;
 use headers::Table;
@@ -23,33 +24,51 @@ pub enum Sampler {
 
 // ---- unpacking
 
-// A word of the first half, and one of the second: its own byte has the upper eight bits, the byte that both share the lower four.
-fn first_word(own: u8, shared: u8) -> i16
-    ensures { λ r. ⌜ r ≡ wordOf 4096 (16 * own + shared / 16) ⌝ }
+// A word of the first half, and one of the second: a pair of bytes has the first one's upper eight bits, and below them the lower four of either.
+fn first_word(pair: u16) -> i16
+    ensures { λ r. ⌜ r ≡ wordOf 4096 (pair / 16) ⌝ }
 {
-    words::word12(16 * (own as u16) + (shared as u16) / 16)
+    words::word12(pair / 16)
 }
 
-fn second_word(own: u8, shared: u8) -> i16
-    ensures { λ r. ⌜ r ≡ wordOf 4096 (16 * own + shared % 16) ⌝ }
+fn second_word(upper: u8, pair: u16) -> i16
+    ensures { λ r. ⌜ r ≡ wordOf 4096 (16 * upper + pair % 16) ⌝ }
 {
-    words::word12(16 * (own as u16) + (shared as u16) % 16)
+    words::word12(16 * (upper as u16) + pair % 16)
 }
 
-// Fills the words of S900 data, one of each half a turn: in one loop the compiler loads the shared bytes once, many at a time.
+// Fills the first half of the words of S900 data, the second half, and both. A loop for each half has no branch, and a pair of bytes read as one
+// number lets the compiler load many at a time.
+fn fill_first(source: &[u8], half: usize, words: &mut [i16])
+    requires { ⌜ (2 * half ≤ length (now source)) × (half ≤ length (now words)) ⌝ }
+    ensures { λ _. ⌜ now (words .exit) ≡ sets (now (words .entry)) 0 (map (wordOf 4096) (tab (firstBits (bytes (now (source .entry)))) 0 half)) ⌝ }
+{
+    let mut i: usize = 0;
+    while i < half {
+        let word = first_word(blocks::number2(source, 2 * i) as u16);
+        words[i] = word;
+        i += 1;
+    }
+}
+
+fn fill_second(source: &[u8], half: usize, words: &mut [i16])
+    requires { ⌜ (3 * half ≤ length (now source)) × (2 * half ≤ length (now words)) ⌝ }
+    ensures { λ _. ⌜ now (words .exit) ≡ sets (now (words .entry)) half (map (wordOf 4096) (tab (secondBits (bytes (now (source .entry))) half) 0 half)) ⌝ }
+{
+    let mut i: usize = 0;
+    while i < half {
+        let word = second_word(source[2 * half + i], blocks::number2(source, 2 * i) as u16);
+        words[half + i] = word;
+        i += 1;
+    }
+}
+
 fn fill900(source: &[u8], count: usize, words: &mut [i16])
     requires { ⌜ (count + count / 2 ≤ length (now source)) × (count ≤ length (now words)) ⌝ }
     ensures { λ _. ⌜ now (words .exit) ≡ sets (now (words .entry)) 0 (unpacked900 (bytes (now (source .entry))) count) ⌝ }
 {
-    let half = count / 2;
-    let mut i: usize = 0;
-    while i < half {
-        let first = first_word(source[2 * i + 1], source[2 * i]);
-        let second = second_word(source[2 * half + i], source[2 * i]);
-        words[i] = first;
-        words[half + i] = second;
-        i += 1;
-    }
+    fill_first(source, count / 2, words);
+    fill_second(source, count / 2, words);
 }
 
 // Fills the words of S1000 data, two bytes each.

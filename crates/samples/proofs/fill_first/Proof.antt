@@ -1,0 +1,84 @@
+-- `samples::fill_first` meets its contract: the first half is filled with the words of its bits.
+-- One word a turn, in order. Assumes nothing.
+use mathlib.Core.Path.{sym, ap, _∙_}
+use mathlib.Core.List.{[], _∷_}
+use Prim.Native.Nat.{_-_}
+use native.Mathlib.Nat.{zero-add}
+use native.Mathlib.Omega.{arith}
+use borrow.Author.Needs.{needs}
+use lib.Seq.{sets}
+use mir.Syntax.{w16}
+use mir.Facts.{toZ-ofZ}
+use Rattle.laws.specs.Reader.{bytes}
+use Rattle.words.specs.Parts.{parts-map, Written, written-none, written-one, written-all}
+use Rattle.words.specs.Words.{wordOf, firstBits}
+use Rattle.samples.specs.Data.{first-bits}
+use Rattle.samples.proofs.fill_first.Statement.{statement}
+use Rattle.samples.proofs.fill_first.Tie as tie
+
+abbrev Inv-loop : tie.InvT-loop
+Inv-loop source half words₀ i₀ words i = Written (λ k. wordOf 4096 (firstBits (bytes source) k) ∷ []) 1 0 half words₀ words i
+
+abbrev μ-loop : tie.MeasureT-loop
+μ-loop source half words₀ i₀ words i = half - i
+
+loop-holds : tie.Need-loop-holds Inv-loop μ-loop
+loop-holds c = written-none _ _ _ _ _
+
+mul-number2 : tie.Need-mul-number2 Inv-loop μ-loop
+mul-number2 c = search needs
+
+number2-requires : tie.Need-number2-requires Inv-loop μ-loop
+number2-requires c κs = search needs
+
+cast-first-word : tie.Need-cast-first-word Inv-loop μ-loop
+cast-first-word c = search needs
+
+first-word-requires : tie.Need-first-word-requires Inv-loop μ-loop
+first-word-requires c κs = search needs
+
+mul-word : tie.Need-mul-word Inv-loop μ-loop
+mul-word c = search needs
+
+slice-set-from-word : tie.Need-slice-set-from-word Inv-loop μ-loop
+slice-set-from-word c = let e = c .before .before .before .loop .inv .long in omega arith
+
+add-i : tie.Need-add-i Inv-loop μ-loop
+add-i c = search needs
+
+loop-less : tie.Need-loop-less Inv-loop μ-loop
+loop-less c = search needs
+
+loop-again : tie.Need-loop-again Inv-loop μ-loop
+loop-again c =
+    let a = c .before .before .before .before .before .args in
+    written-one (λ k. wordOf 4096 (firstBits (bytes (a .source .now)) k)) 0 (a .half) (a .words .now) (c .before .before .before .loop .inv) (c .before .before .loop-test .taken) (sym (zero-add _))
+    (toZ-ofZ {w = w16} (record { sfits = c .first-word .ok }) ∙ c .first-word .ensures ∙ ap (wordOf 4096) (first-bits (bytes (a .source .now)) _ (c .before .number2 .ensures)))
+
+same-length : tie.Need-same-length Inv-loop μ-loop
+same-length c = c .before .loop .inv .long
+
+returns : tie.Need-returns Inv-loop μ-loop
+returns c =
+    let a = c .before .before .before .args in
+    written-all _ _ _ _ _ (c .before .loop .inv) (c .loop-test .left)
+    ∙ ap (sets (a .words .now) 0) (sym (parts-map (wordOf 4096) (firstBits (bytes (a .source .now))) 0 (a .half)))
+
+pub fill-first-spec : {M : Type 1} → statement M
+fill-first-spec =
+    tie.close
+    (tie.spec
+    Inv-loop
+    μ-loop
+    loop-holds
+    mul-number2
+    number2-requires
+    cast-first-word
+    first-word-requires
+    mul-word
+    slice-set-from-word
+    add-i
+    loop-less
+    loop-again
+    same-length
+    returns)
