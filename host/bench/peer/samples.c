@@ -79,6 +79,23 @@ sj_counted peer_s900_unpack(const uint8_t *file, size_t file_len, int16_t *words
     return (sj_counted){0, 0, count};
 }
 
+static bool is_outside(int16_t word) { return word < -2048 || word > 2047; }
+
+/* Whether 12 bits do not hold some word: asked of all before the lowest is looked for, so that gcc asks many at a time. */
+static bool is_any_outside(const int16_t *words, size_t count) {
+    int any = 0;
+    for (size_t i = 0; i < count; i++)
+        any |= is_outside(words[i]);
+    return any != 0;
+}
+
+static size_t lowest_outside(const int16_t *words) {
+    size_t i = 0;
+    while (!is_outside(words[i]))
+        i++;
+    return i;
+}
+
 sj_counted peer_s900_pack(const uint8_t *header, size_t header_len, const int16_t *words, size_t words_len, uint8_t *out, size_t out_len) {
     if (header_len != HEADER_900)
         return refused(18, 0);
@@ -88,9 +105,8 @@ sj_counted peer_s900_pack(const uint8_t *header, size_t header_len, const int16_
     int place = fault_900(header);
     if (place != SOUND)
         return refused(18, (size_t)place);
-    for (size_t i = 0; i < count; i++)
-        if (words[i] < -2048 || words[i] > 2047)
-            return refused(19, i);
+    if (is_any_outside(words, count))
+        return refused(19, lowest_outside(words));
     if (out_len < HEADER_900 + count + half)
         return refused(21, 0);
     memcpy(out, header, HEADER_900);
