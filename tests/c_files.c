@@ -192,6 +192,17 @@ static void sample_sizes(const sampler *s) {
     }
 }
 
+/* Samples of more words, packed and unpacked: whatever a loop over many words at a time can leave to its end. */
+static void longer_samples(const sampler *s) {
+    uint8_t file[2 * MOST];
+    int16_t words[MOST];
+    for (size_t n = WORDS; n <= MOST - 80; n++) {
+        make_sample(s, n, words, file);
+        sj_counted r = try_pack(s, file, s->header, words, n, s->header + n * s->data / 2);
+        CHECK(r.refusal == (odd(s, n) ? 18u : 0u));
+    }
+}
+
 static void try_both(const sampler *s, const uint8_t *file, const int16_t *words) {
     try_unpack(s, file, s->header + WORDS * s->data / 2, words, WORDS);
     try_pack(s, file, s->header, words, WORDS, 2 * MOST);
@@ -296,6 +307,7 @@ static void null_slices(const sampler *s) {
 
 static void samples(const sampler *s) {
     sample_sizes(s);
+    longer_samples(s);
     header_bytes(s);
     broken_rules(s);
     wrapped_counts(s);
