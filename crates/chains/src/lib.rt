@@ -15,7 +15,7 @@ ghost use Rattle.map.specs.Marks.{Marks};
 ghost use Rattle.view.specs.Disk.{owned};
 ghost use Rattle.view.specs.Rules.{badSystem, broken, sharing, stray};
 ghost use Rattle.image.specs.Image.{viewOf};
-ghost use Rattle.chains.specs.Passes.{Followed, Claimed};
+ghost use Rattle.chains.specs.Passes.{Followed};
 ghost use Rattle.chains.specs.Tally.{taken};
 
 // The lowest system block that doesn't hold the system value (refusal 3).
@@ -91,7 +91,7 @@ pub fn chain_fault(head: &[u8], layout: layout::Layout, marks: &mut [bool; 1600]
 }
 
 // How many blocks the chains of all slots have.
-pub fn count_chained(head: &[u8], layout: layout::Layout) -> usize
+fn count_chained(head: &[u8], layout: layout::Layout) -> usize
     requires { ⌜ LayoutRight layout × (blockOffset (layout .first) ≤ length (now head)) × (lowest (broken layout (viewOf layout (bytes (now head)))) 0 (layout .slots) ≡ Nowhere) ⌝ }
     ensures { λ r. ⌜ r ≡ length (owned (viewOf layout (bytes (now (head .entry)))) (layout .slots)) ⌝ }
 {
@@ -127,11 +127,10 @@ pub fn count_marked(layout: layout::Layout, marks: &[bool; 1600]) -> usize
     marked as usize
 }
 
-// The lowest slot whose chain shares a block with a lower slot's (refusal 8). The marks are left as those of all chains where
-// there is none.
-pub fn share_fault(head: &[u8], layout: layout::Layout, marks: &mut [bool; 1600]) -> laws::Lowest
+// The lowest slot whose chain shares a block with a lower slot's, by walking the chains in turn: its own comes upon a block marked before.
+fn share_fault(head: &[u8], layout: layout::Layout, marks: &mut [bool; 1600]) -> laws::Lowest
     requires { ⌜ LayoutRight layout × (blockOffset (layout .first) ≤ length (now head)) × (lowest (broken layout (viewOf layout (bytes (now head)))) 0 (layout .slots) ≡ Nowhere) × (now marks ≡ replicate 1600 false) ⌝ }
-    ensures { λ r. ⌜ Claimed layout (viewOf layout (bytes (now (head .entry)))) (now (marks .exit)) r ⌝ }
+    ensures { λ r. ⌜ r ≡ lowest (sharing layout (viewOf layout (bytes (now (head .entry))))) 0 (layout .slots) ⌝ }
 {
     let end = layout.slots;
     let mut next = 0;
@@ -175,7 +174,7 @@ fn is_stray(head: &[u8], layout: layout::Layout, marks: &[bool; 1600], block: us
 }
 
 // The lowest data block with a nonzero map value that is on no chain (refusal 9); the marks are those of all chains.
-pub fn stray_fault(head: &[u8], layout: layout::Layout, marks: &[bool; 1600]) -> laws::Lowest
+fn stray_fault(head: &[u8], layout: layout::Layout, marks: &[bool; 1600]) -> laws::Lowest
     requires { ⌜ LayoutRight layout × (blockOffset (layout .first) ≤ length (now head)) × Marks 1600 (now marks) (owned (viewOf layout (bytes (now head))) (layout .slots)) ⌝ }
     ensures { λ r. ⌜ r ≡ lowest (stray layout (viewOf layout (bytes (now (head .entry))))) (layout .first) (layout .blocks - layout .first) ⌝ }
 {

@@ -50,15 +50,10 @@ module _ (l : Layout) (v : View) (s k b : ℕ) where
       let inside : (x : ℕ) → In x (chain (v .map) k b) → x < 1600 = λ x i. omega (arith, chain-data l right (v .map) k b x c i .1, right .blocks-most) in
       record { chained = c; inside = inside; all = rw (u, links, start); marks = chain-marks v s u k b links start inside }
 
-  module _ (w : Walked l v s k b) (ms : List Bool) (m : Marks 1600 ms (owned v s)) where
-    -- it shares a block where it touches the marks of the slots below
-    shared-is : sharing l v s ≡ touched ms (chain (v .map) k b)
-    unfolding sharing
-    shared-is = ap (meets (owned v s)) (w .all) ∙ sym (touched-meets 1600 ms (owned v s) (chain (v .map) k b) (w .inside) m)
-
-    -- and with it they are the marks of one slot more
-    slot-marks : Marks 1600 (marked ms (chain (v .map) k b)) (owned v (s + 1))
-    slot-marks = w .marks ms m
+  -- it shares a block where it touches the marks of the slots below
+  shared-is : Walked l v s k b → (ms : List Bool) → Marks 1600 ms (owned v s) → sharing l v s ≡ touched ms (chain (v .map) k b)
+  unfolding sharing
+  shared-is w ms m = ap (meets (owned v s)) (w .all) ∙ sym (touched-meets 1600 ms (owned v s) (chain (v .map) k b) (w .inside) m)
 
 abbrev Inv-loop : tie.InvT-loop
 Inv-loop head layout marks₀ end next₀ marks next =
@@ -119,10 +114,7 @@ shared c = shared-is _ _ _ _ _ (walked (c .before .before)) _ (c .before .before
 returns : tie.Need-returns Inv-loop μ-loop
 returns c =
     let d = c .before .before .before .before .before .before .before in
-    record {
-      place = sym (d .before .loop .inv .2 ∙ lowest-stop _ _ _ (d .loop-test .taken) (shared (c .before) ∙ c .if2 .taken));
-      marks-all = λ e. let z : _≡_ {A = ℕ} 0 1 = cc in absurd (omega arith);
-    }
+    sym (d .before .loop .inv .2 ∙ lowest-stop _ _ _ (d .loop-test .taken) (shared (c .before) ∙ c .if2 .taken))
 
 loop-less-2 : tie.Need-loop-less-2 Inv-loop μ-loop
 loop-less-2 c = search needs
@@ -133,15 +125,12 @@ loop-again-2 c =
     let t = d .before .before .before .before .before .before .before in
     let i = t .before .loop .inv in (
       omega (arith, t .loop-test .taken),
-      rw (c .mark-chain .ensures) (slot-marks _ _ _ _ _ (walked (d .before .before .before)) _ (i .1)),
+      rw (c .mark-chain .ensures) (walked (d .before .before .before) .marks _ (i .1)),
       i .2 ∙ lowest-on _ _ _ (t .loop-test .taken) (shared (d .before) ∙ d .if2 .left),
     )
 
 returns-2 : tie.Need-returns-2 Inv-loop μ-loop
-returns-2 c =
-    let i = c .before .loop .inv in
-    let e : c .before .loop .next ≡ c .before .before .before .args .layout .slots = omega arith in
-    record { place = sym (i .2 ∙ lowest-end _ _ _ (c .loop-test .left)); marks-all = λ _. rw e at (i .1) }
+returns-2 c = sym (c .before .loop .inv .2 ∙ lowest-end _ _ _ (c .loop-test .left))
 
 pub share-fault-spec : {M : Type 1} → statement M
 share-fault-spec =
