@@ -246,7 +246,17 @@ blocks-few k d f n img e s (yes h) true t =
     rw (lt-ltb s (l .slots) h, t, length-chain m (linksFor (w .size)) (w .start))
     (omega (arith, chain-short l (layout-right k d) m (linksFor (w .size)) (w .start) c))
 
--- A file has at most as many blocks as the data area: with that much room a call for them is never refused by 21.
+-- A file has at most as many blocks as the data area.
 pub blocks-most : (k : Kind) (d : Density) (f n : ℕ) (img : List ℕ) → checkOf img ≡ Accepted k d f n → (s : ℕ)
     → length (fileBlocks (layoutOf k d) img s) ≤ layoutOf k d .blocks - layoutOf k d .first
 blocks-most k d f n img e s = blocks-few k d f n img e s (decLt s (layoutOf k d .slots)) (used (viewOf (layoutOf k d) (bytes img) .entry s)) refl
+
+stored : (blocks out : List ℕ) → length blocks ≤ length out → storing blocks out .answer .refusal ≡ 21 → ⊥
+stored [] out h e = absurd (omega arith)
+stored (b ∷ bs) out h e = let z = rw (le-ltb (length out) (length (b ∷ bs)) h) at e in absurd (omega arith)
+
+-- So an output with that much room is never refused by 21.
+pub room-enough : (k : Kind) (d : Density) (f n : ℕ) (img : List ℕ) → checkOf img ≡ Accepted k d f n → (s : ℕ) (out : List ℕ)
+    → layoutOf k d .blocks - layoutOf k d .first ≤ length out → blocksOf img s out .answer .refusal ≡ 21 → ⊥
+unfolding blocksOf
+room-enough k d f n img e s out h r = stored (fileBlocks (layoutOf k d) img s) out (omega (arith, blocks-most k d f n img e s)) (rw e at r)
