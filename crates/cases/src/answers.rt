@@ -10,7 +10,7 @@ fn print_file(letters: usize, letter: u8, size: usize, name: &[u8]) {
 }
 
 // The line of a slot's listing.
-pub fn print_listed(listed: calls::Listed) {
+pub(crate) fn print_listed(listed: calls::Listed) {
     let entry = listed.entry;
     let name = listed.name;
     match entry {
@@ -36,7 +36,7 @@ fn print_found(found: calls::Found) {
 }
 
 // Finds the name between the brackets at `at` and at the text's end, and prints the answer.
-pub fn find(image: &[u8], text: &[u8], at: usize) {
+pub(crate) fn find(image: &[u8], text: &[u8], at: usize) {
     let end = text.len();
     if at < end {
         if end - at >= 2 {
@@ -125,7 +125,7 @@ fn page_into(image: &[u8], slot: usize, offset: usize, out: &mut [u8; 4096], siz
 }
 
 // Pages into `size` bytes of 238, at most 4,096, and prints the answer.
-pub fn page(image: &[u8], slot: usize, offset: usize, size: usize) {
+pub(crate) fn page(image: &[u8], slot: usize, offset: usize, size: usize) {
     let mut out = [238u8; 4096];
     page_into(image, slot, offset, &mut out, size);
 }

@@ -2,18 +2,18 @@
 use crate::Image;
 use crate::line;
 
-pub fn clear(image: &mut Image) {
+pub(crate) fn clear(image: &mut Image) {
     *image = [0; 1638401];
 }
 
 // Stores a value modulo 256.
-pub fn set_byte(image: &mut Image, at: usize, value: usize) {
+pub(crate) fn set_byte(image: &mut Image, at: usize, value: usize) {
     if at < 1638401 {
         image[at] = (value % 256) as u8;
     }
 }
 
-pub fn set_word(image: &mut Image, at: usize, value: usize) {
+pub(crate) fn set_word(image: &mut Image, at: usize, value: usize) {
     if at < 1638401 {
         set_byte(image, at, value);
         set_byte(image, at + 1, value / 256);
@@ -21,7 +21,7 @@ pub fn set_word(image: &mut Image, at: usize, value: usize) {
 }
 
 // Stores a word at `count` offsets, `step` apart.
-pub fn set_words(image: &mut Image, at: usize, value: usize, count: usize, step: usize) {
+pub(crate) fn set_words(image: &mut Image, at: usize, value: usize, count: usize, step: usize) {
     let mut next = at;
     let mut left = count;
     while left > 0 {
@@ -58,12 +58,12 @@ fn slot_at(slot: usize) -> usize {
     if slot < 64 { 24 * slot } else { 1638401 }
 }
 
-pub fn set_map(image: &mut Image, block: usize, value: usize) {
+pub(crate) fn set_map(image: &mut Image, block: usize, value: usize) {
     set_word(image, map_at(block), value);
 }
 
 // Stores the links of `count` blocks in rising order, and a value at the last.
-pub fn set_links(image: &mut Image, block: usize, count: usize, value: usize) {
+pub(crate) fn set_links(image: &mut Image, block: usize, count: usize, value: usize) {
     let mut next = block;
     let mut left = count;
     while left > 1 {
@@ -76,7 +76,7 @@ pub fn set_links(image: &mut Image, block: usize, count: usize, value: usize) {
 }
 
 // Stores count bytes from a block on, that count up modulo 251.
-pub fn set_data(image: &mut Image, block: usize, count: usize, first: usize) {
+pub(crate) fn set_data(image: &mut Image, block: usize, count: usize, first: usize) {
     let mut next = block_at(block);
     let mut value = first % 251;
     let mut left = count;
@@ -124,7 +124,7 @@ fn set_name(image: &mut Image, at: usize, text: &[u8], from: usize, count: usize
 }
 
 // Stores a slot but for its identity: SLOT TYPE LENGTH START NAME.
-pub fn set_entry(image: &mut Image, text: &[u8]) {
+pub(crate) fn set_entry(image: &mut Image, text: &[u8]) {
     let slot = line::number(text, line::word_end(text, 0));
     let letter_at = moved(slot.next, 1);
     let letter = line::byte_at(text, letter_at);

@@ -3,13 +3,13 @@ ghost use Prim.Native.Nat.{_≤_, _<_};
 ghost use lib.ListN.{length};
 
 // A number, and where it ends.
-pub struct Parsed {
+pub(crate) struct Parsed {
     pub value: usize,
     pub next: usize,
 }
 
 // The byte at an index, or a line's end.
-pub fn byte_at(text: &[u8], at: usize) -> u8 {
+pub(crate) fn byte_at(text: &[u8], at: usize) -> u8 {
     if at < text.len() { text[at] } else { b'\n' }
 }
 
@@ -35,7 +35,7 @@ fn longer(value: usize, digit: usize) -> usize
 }
 
 // The number after the space at an index.
-pub fn number(text: &[u8], at: usize) -> Parsed {
+pub(crate) fn number(text: &[u8], at: usize) -> Parsed {
     let mut value: usize = 0;
     let mut next = at;
     while next < text.len() {
@@ -50,14 +50,14 @@ pub fn number(text: &[u8], at: usize) -> Parsed {
 }
 
 // Where the word from an index on ends: at a space, or with the text.
-pub fn word_end(text: &[u8], at: usize) -> usize
+pub(crate) fn word_end(text: &[u8], at: usize) -> usize
     requires { ⌜ at ≤ length (now text) ⌝ }
 {
     end_of(text, at, b' ')
 }
 
 // Where the line from an index on ends.
-pub fn line_end(text: &[u8], at: usize) -> usize
+pub(crate) fn line_end(text: &[u8], at: usize) -> usize
     requires { ⌜ at ≤ length (now text) ⌝ }
     ensures { λ r. ⌜ (at ≤ r) × (r ≤ length (now (text .entry))) ⌝ }
 {

@@ -22,7 +22,7 @@ use libc::STDIN_FILENO;
 use libc::STDOUT_FILENO;
 
 // Room for the longest image and one byte more, so that one that is too long can be asked about.
-pub type Image = [u8; 1638401];
+pub(crate) type Image = [u8; 1638401];
 
 // Prints the line, with its end.
 fn print_text(text: &[u8]) {
