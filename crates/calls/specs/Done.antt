@@ -20,9 +20,10 @@ use Rattle.names.specs.Names.{legalName}
 use Rattle.map.specs.Map.{mapAt, freeBlocks, freeCount, Chained}
 use Rattle.map.specs.Free.{free-count}
 use Rattle.view.specs.Disk.{File}
+use Rattle.laws.specs.declared.Refusal.{Refusal}
 use Rattle.image.specs.Image.{viewOf, filesIn, DiskRules, putImage, removeImage}
 use Rattle.changes.specs.Changes.{Puttable}
-use Rattle.record.specs.Record.{Shape, shapeOf, Files, list, find, page, put, remove, slotIs, done, refused, free, judgeName, judgePut, fileAt, listing, finding, paging, putting, removing}
+use Rattle.record.specs.Record.{Shape, shapeOf, Files, list, find, page, put, remove, valued, done, refusedBy, free, judgeName, judgePut, fileAt, listing, finding, paging, putting, removing}
 use Rattle.record.specs.Granted.{granted-put}
 use Rattle.record.specs.Update.{free-is, put-slot, content-some, remove-slot}
 use Rattle.record.specs.declared.Judged.{Judged}
@@ -47,7 +48,7 @@ module _ (shape : Shape) (img : List ℕ) where
   listing-on (some f) = refl
 
   finding-on : (j : Judged) → came (finding (filesIn l img) j .answer) (finding (filesIn l img) j .output) img ≡ finding img j
-  finding-on (Refuse n p) = refl
+  finding-on (Refuse r) = refl
   finding-on (Grant s) = refl
 
   paging-on : (w : Option File) (offset : ℕ) (out : List ℕ) → came (paging (filesIn l img) w offset out .answer) (paging (filesIn l img) w offset out .output) img ≡ paging img w offset out
@@ -69,12 +70,12 @@ module _ (shape : Shape) (img : List ℕ) where
 
   putting-on : (next : ℕ → Files) (change : ℕ → List ℕ) (j : Judged)
       → came (putting (filesIn l img) next j .answer) (putting (filesIn l img) next j .output) (after img change j) ≡ putting img change j
-  putting-on next change (Refuse n p) = refl
+  putting-on next change (Refuse r) = refl
   putting-on next change (Grant s) = refl
 
   removing-on : (next : ℕ → Files) (change : ℕ → List ℕ) (j : Judged)
       → came (removing (filesIn l img) next j .answer) (removing (filesIn l img) next j .output) (after img change j) ≡ removing img change j
-  removing-on next change (Refuse n p) = refl
+  removing-on next change (Refuse r) = refl
   removing-on next change (Grant s) = refl
 
   step-put : (name : List ℕ) (type : ℕ) (content : List ℕ)
@@ -92,7 +93,7 @@ module _ (shape : Shape) (img : List ℕ) where
 
 -- find's answer by its judgement
 found-came : {img : List ℕ} (j : Judged) → came (foundOf (foundBy j)) [] img ≡ finding img j
-found-came (Refuse n p) = refl
+found-came (Refuse r) = refl
 found-came (Grant s) = refl
 
 -- as many free blocks as the map counts
@@ -128,13 +129,13 @@ module _ (img : List ℕ) {c : Checked} {k : Kind} {d : Density} {f n : ℕ} (ch
     put-is : putting img (λ s. putImage l img s name type content) j ≡ callOf img (put name type content)
     put-is = rw (judged, made) (sym (call-accepted img (put name type content) checked yes ∙ step-put (shapeOf k d) img name type content))
 
-    put-refused : {number place : ℕ} → j ≡ Refuse number place → came (refused number place) [] img ≡ callOf img (put name type content)
+    put-refused : {w : Refusal} → j ≡ Refuse w → came (refusedBy w) [] img ≡ callOf img (put name type content)
     put-refused e = rw e at put-is
 
-    pub put-found : {number place : ℕ} {r : Found} → j ≡ Refuse number place → r ≡ foundBy j → came (foundOf r) [] img ≡ callOf img (put name type content)
+    pub put-found : {w : Refusal} {r : Found} → j ≡ Refuse w → r ≡ foundBy j → came (foundOf r) [] img ≡ callOf img (put name type content)
     put-found e t = rw (t, e) (put-refused e)
 
-    pub put-granted : {s : ℕ} {after : List ℕ} → j ≡ Grant s → after ≡ putImage l img s name type content → came (slotIs s) [] after ≡ callOf img (put name type content)
+    pub put-granted : {s : ℕ} {after : List ℕ} → j ≡ Grant s → after ≡ putImage l img s name type content → came (valued s) [] after ≡ callOf img (put name type content)
     put-granted e t = rw t (rw e at put-is)
 
     -- what the granted put needs
@@ -158,7 +159,7 @@ module _ (img : List ℕ) {c : Checked} {k : Kind} {d : Density} {f n : ℕ} (ch
     remove-is : removing img (removeImage l img) j ≡ callOf img (remove name)
     remove-is = rw (judged, made) (sym (call-accepted img (remove name) checked yes ∙ step-remove (shapeOf k d) img name))
 
-    pub remove-refused : {number place : ℕ} → j ≡ Refuse number place → came (refused number place) [] img ≡ callOf img (remove name)
+    pub remove-refused : {w : Refusal} → j ≡ Refuse w → came (refusedBy w) [] img ≡ callOf img (remove name)
     remove-refused e = rw e at remove-is
 
     pub remove-granted : {s : ℕ} {after : List ℕ} → j ≡ Grant s → after ≡ removeImage l img s → came done [] after ≡ callOf img (remove name)

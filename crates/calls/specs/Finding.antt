@@ -22,8 +22,8 @@ use Rattle.names.specs.NameLaws.{length-area, name-back, area-back}
 use Rattle.view.specs.Disk.{Entry, used, formed, filesOf}
 use Rattle.image.specs.Image.{viewOf, filesIn, DiskRules}
 use Rattle.slots.specs.Keys.{Key, hasArea, hasKeys, keys-area}
-use Rattle.record.specs.Record.{Files, named, slotOf, judgeName}
-use Rattle.record.specs.declared.Judged.the-variants.{Refuse, Grant}
+use Rattle.record.specs.Record.{Files, refuse, named, slotOf, judgeName}
+use Rattle.record.specs.declared.Judged.the-variants.{Grant}
 
 formed-area : (l : Layout) (e : Entry) → formed l e ≡ true → legalArea l (e .area) ≡ true
 unfolding formed
@@ -71,7 +71,7 @@ module _ (l : Layout) (right : LayoutRight l) (img : List ℕ) (rules : DiskRule
 -- ---- the judgement of a name, r being the slot found
 
 module _ (l : Layout) (files : Files) (name : List ℕ) where
-  pub judge-illegal : legalName l name ≡ false → Refuse 11 0 ≡ judgeName l files name
+  pub judge-illegal : legalName l name ≡ false → refuse 11 0 ≡ judgeName l files name
   unfolding judgeName
   judge-illegal e = rw e refl
 
@@ -80,6 +80,6 @@ module _ (l : Layout) (files : Files) (name : List ℕ) where
     unfolding judgeName
     judge-found e = rw (legal, ← slot, e) refl
 
-    pub judge-none : r ≡ Nowhere → Refuse 10 0 ≡ judgeName l files name
+    pub judge-none : r ≡ Nowhere → refuse 10 0 ≡ judgeName l files name
     unfolding judgeName
     judge-none e = rw (legal, ← slot, e) refl

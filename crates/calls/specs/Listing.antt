@@ -16,14 +16,15 @@ use Rattle.layout.specs.Right.{LayoutRight}
 use Rattle.names.specs.Names.{nameOf}
 use Rattle.names.specs.NameLaws.{length-name}
 use Rattle.view.specs.Disk.{File, used}
+use Rattle.laws.specs.Refusals.{refusalAt}
 use Rattle.image.specs.Image.{entryAt, viewOf, filesIn, DiskRules}
 use Rattle.record.specs.Record.{fileAt, listing}
 use Rattle.calls.specs.declared.Listed.{Listed}
 use Rattle.calls.specs.declared.Entry.the-variants as entries
-use Rattle.calls.specs.Answers.{Lists, noFile}
+use Rattle.calls.specs.Answers.{Lists, unlistedBy}
 use Rattle.calls.specs.Slots.{file-used, file-length, slot-held}
 
-pub lists-none : (img : List ℕ) (w : Option File) {r : Listed} → w ≡ none → r ≡ noFile → Lists img (listing img w) r
+pub lists-none : (img : List ℕ) (w : Option File) {r : Listed} → w ≡ none → r ≡ unlistedBy (refusalAt 10 0) → Lists img (listing img w) r
 lists-none img w e q = rw (e, q) (record { answer = refl; name = sym (padded-nil 12) })
 
 -- a part of 16 bytes that was lent by its end

@@ -7,7 +7,7 @@ use Rattle.record.specs.Record.{shapeOf, Call, check, list, find, page, put, re
 use Rattle.record.specs.Step.{stepImage}
 use Rattle.rules.specs.declared.Checked.{Checked}
 use Rattle.rules.specs.declared.Checked.the-variants.{Accepted, Refused}
-use Rattle.rules.specs.Check.{checkOf, answerOf, callOf}
+use Rattle.rules.specs.Check.{checkOf, refusalOf, answerOf, callOf}
 use Rattle.rules.specs.Demand.{check-call}
 use Rattle.calls.specs.declared.Found.{Found}
 use Rattle.calls.specs.declared.Paged.{Paged}
@@ -44,7 +44,7 @@ unfolding stepImage
 check-made img c e = go (checkOf img) refl
   where
     go : (w : Checked) → checkOf img ≡ w → Made img check (answerOf c) [] img
-    go (Refused n p) r = call-refused img check e (e ∙ r)
+    go (Refused q) r = rw (e ∙ r) (call-refused img check e (e ∙ r) (sym (ap refusalOf (e ∙ r))))
     go (Accepted k d f n) r =
         let s = call-accepted img check refl r in
         rw (e, ← check-call img) (ap (λ (o : Outcome (List ℕ)). came (o .answer) [] img) s ∙ sym s)

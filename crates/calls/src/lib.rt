@@ -10,43 +10,37 @@ ghost use Rattle.layout.specs.Right.{LayoutRight};
 ghost use Rattle.image.specs.Image.{filesIn, DiskRules};
 ghost use Rattle.record.specs.Record.{slotOf, fileAt, judgeName, judgePut, listing, paging};
 ghost use Rattle.names.specs.Names.{legalName};
+ghost use Rattle.laws.specs.Refusals.{refusalAt};
 ghost use mathlib.Core.Bool.{true};
 ghost use Rattle.rules.specs.Check.{callOf};
-ghost use Rattle.calls.specs.Answers.{came, foundOf, foundBy, pagedOf, Lists, noFile, unlistedOf, listCall, findCall, pageCall, putCall, removeCall, removedOf};
+ghost use Rattle.calls.specs.Answers.{came, foundOf, foundBy, pagedOf, Lists, unlistedBy, listCall, findCall, pageCall, putCall, removeCall, removedOf};
 
-// A slot, a refusal of the call's own, or the check's refusal.
+// A slot, or a refusal.
 pub enum Found {
     At(usize),
-    Refusal { number: usize, place: usize },
-    Unchecked(rules::Checked),
+    Refused(laws::Refusal),
 }
 
-// How many bytes a page has and whether the file ends with them, a refusal of the call's own, or the check's refusal.
+// How many bytes a page has and whether the file ends with them, or a refusal.
 pub enum Paged {
     Page { count: usize, end: bool },
-    Refusal { number: usize, place: usize },
-    Unchecked(rules::Checked),
+    Refused(laws::Refusal),
 }
 
-// Done, a refusal of the call's own, or the check's refusal.
+// Done, or a refusal.
 pub enum Removed {
     Done,
-    Refusal { number: usize, place: usize },
-    Unchecked(rules::Checked),
+    Refused(laws::Refusal),
 }
 
-// A file's name length, type byte and length, a refusal of the call's own, or the check's refusal.
+// A file's name length, type byte and length, or a refusal.
 pub enum Entry {
     File {
         letters: usize,
         letter: u8,
         length: usize,
     },
-    Refusal {
-        number: usize,
-        place: usize,
-    },
-    Unchecked(rules::Checked),
+    Refused(laws::Refusal),
 }
 
 // An entry with its name in ASCII, then zeros.
@@ -56,26 +50,22 @@ pub struct Listed {
 }
 
 // A listing without a file.
-fn no_file() -> Listed
-    ensures { λ r. ⌜ r ≡ noFile ⌝ }
+fn unlisted(refusal: laws::Refusal) -> Listed
+    ensures { λ r. ⌜ r ≡ unlistedBy refusal ⌝ }
 {
     Listed {
-        entry: Entry::Refusal {
-            number: 10,
-            place: 0,
-        },
+        entry: Entry::Refused(refusal),
         name: [0; 12],
     }
 }
 
-// A listing of an image that the check refused.
-fn unlisted(checked: rules::Checked) -> Listed
-    ensures { λ r. ⌜ r ≡ unlistedOf checked ⌝ }
+fn no_file() -> Listed
+    ensures { λ r. ⌜ r ≡ unlistedBy (refusalAt 10 0) ⌝ }
 {
-    Listed {
-        entry: Entry::Unchecked(checked),
-        name: [0; 12],
-    }
+    unlisted(laws::Refusal {
+        number: 10,
+        place: 0,
+    })
 }
 
 // Lists a slot of an accepted image: 10 if it is empty or not there.
@@ -124,18 +114,18 @@ fn judge_name(image: &[u8], layout: layout::Layout, name: &[u8]) -> record::Judg
     ensures { λ r. ⌜ r ≡ judgeName layout (filesIn layout (now (image .entry))) (now (name .entry)) ⌝ }
 {
     if !names::is_name(layout, name) {
-        return record::Judged::Refuse {
+        return record::Judged::Refuse(laws::Refusal {
             number: 11,
             place: 0,
-        };
+        });
     }
     let found = slot_named(image, layout, name);
     match found {
         laws::Lowest::At(slot) => record::Judged::Grant(slot),
-        laws::Lowest::Nowhere => record::Judged::Refuse {
+        laws::Lowest::Nowhere => record::Judged::Refuse(laws::Refusal {
             number: 10,
             place: 0,
-        },
+        }),
     }
 }
 
@@ -144,7 +134,7 @@ fn found_by(judged: record::Judged) -> Found
     ensures { λ r. ⌜ r ≡ foundBy judged ⌝ }
 {
     match judged {
-        record::Judged::Refuse { number, place } => Found::Refusal { number, place },
+        record::Judged::Refuse(refusal) => Found::Refused(refusal),
         record::Judged::Grant(slot) => Found::At(slot),
     }
 }
@@ -156,16 +146,16 @@ fn judge_room(free: usize, size: usize, slot: usize) -> record::Judged
 {
     let wanted = (size - 1) / 1024 + 1;
     if free < wanted {
-        return record::Judged::Refuse {
+        return record::Judged::Refuse(laws::Refusal {
             number: 15,
             place: 0,
-        };
+        });
     }
     if size > 16777215 {
-        return record::Judged::Refuse {
+        return record::Judged::Refuse(laws::Refusal {
             number: 16,
             place: 0,
-        };
+        });
     }
     record::Judged::Grant(slot)
 }
@@ -183,36 +173,36 @@ fn judge_put(
     ensures { λ r. ⌜ ((content : List ℕ) → length content ≡ size → r ≡ judgePut layout (filesIn layout (now (image .entry))) (now (name .entry)) letter content) ⌝ }
 {
     if !names::is_name(layout, name) {
-        return record::Judged::Refuse {
+        return record::Judged::Refuse(laws::Refusal {
             number: 11,
             place: 0,
-        };
+        });
     }
     if !names::is_type(layout, letter) {
-        return record::Judged::Refuse {
+        return record::Judged::Refuse(laws::Refusal {
             number: 11,
             place: 0,
-        };
+        });
     }
     if size == 0 {
-        return record::Judged::Refuse {
+        return record::Judged::Refuse(laws::Refusal {
             number: 13,
             place: 0,
-        };
+        });
     }
     let taken = slot_named(image, layout, name);
     if let laws::Lowest::At(slot) = taken {
-        return record::Judged::Refuse {
+        return record::Judged::Refuse(laws::Refusal {
             number: 12,
             place: slot,
-        };
+        });
     }
     let empty = slots::empty_slot(image, layout);
     let laws::Lowest::At(slot) = empty else {
-        return record::Judged::Refuse {
+        return record::Judged::Refuse(laws::Refusal {
             number: 14,
             place: 0,
-        };
+        });
     };
     judge_room(free, size, slot)
 }
@@ -230,23 +220,23 @@ fn page_slot(
 {
     let slots = layout.slots;
     if slots <= slot {
-        return Paged::Refusal {
+        return Paged::Refused(laws::Refusal {
             number: 10,
             place: 0,
-        };
+        });
     }
     if !slots::is_used(image, layout, slot) {
-        return Paged::Refusal {
+        return Paged::Refused(laws::Refusal {
             number: 10,
             place: 0,
-        };
+        });
     }
     let size = slots::size_of(image, layout, slot);
     if offset > size {
-        return Paged::Refusal {
+        return Paged::Refused(laws::Refusal {
             number: 17,
             place: 0,
-        };
+        });
     }
     let start = slots::start_of(image, layout, slot);
     let count = blocks::least(out.len(), size - offset);
@@ -268,7 +258,7 @@ pub fn list(image: &[u8], slot: usize) -> Listed
         free: _,
     } = checked
     else {
-        return unlisted(checked);
+        return unlisted(rules::refusal_of(checked));
     };
     let layout = layout::layout_of(kind, density);
     list_slot(image, layout, slot)
@@ -286,7 +276,7 @@ pub fn find(image: &[u8], name: &[u8]) -> Found
         free: _,
     } = checked
     else {
-        return Found::Unchecked(checked);
+        return Found::Refused(rules::refusal_of(checked));
     };
     let layout = layout::layout_of(kind, density);
     found_by(judge_name(image, layout, name))
@@ -304,7 +294,7 @@ pub fn page(image: &[u8], slot: usize, offset: usize, out: &mut [u8]) -> Paged
         free: _,
     } = checked
     else {
-        return Paged::Unchecked(checked);
+        return Paged::Refused(rules::refusal_of(checked));
     };
     let layout = layout::layout_of(kind, density);
     page_slot(image, layout, slot, offset, out)
@@ -322,7 +312,7 @@ pub fn put(image: &mut [u8], name: &[u8], letter: u8, content: &[u8]) -> Found
         free,
     } = checked
     else {
-        return Found::Unchecked(checked);
+        return Found::Refused(rules::refusal_of(checked));
     };
     let layout = layout::layout_of(kind, density);
     let judged = judge_put(image, layout, free, name, letter, content.len());
@@ -346,12 +336,12 @@ pub fn remove(image: &mut [u8], name: &[u8]) -> Removed
         free: _,
     } = checked
     else {
-        return Removed::Unchecked(checked);
+        return Removed::Refused(rules::refusal_of(checked));
     };
     let layout = layout::layout_of(kind, density);
     let judged = judge_name(image, layout, name);
     match judged {
-        record::Judged::Refuse { number, place } => Removed::Refusal { number, place },
+        record::Judged::Refuse(refusal) => Removed::Refused(refusal),
         record::Judged::Grant(slot) => {
             changes::remove_slot(image, layout, slot);
             Removed::Done

@@ -19,8 +19,7 @@ pub(crate) fn print_listed(listed: calls::Listed) {
             letter,
             length,
         } => print_file(letters, letter, length, &name),
-        calls::Entry::Refusal { number, place } => listing::print_refused(number, place),
-        calls::Entry::Unchecked(checked) => listing::print_checked(checked),
+        calls::Entry::Refused(refusal) => listing::print_refused(refusal),
     }
 }
 
@@ -30,8 +29,7 @@ fn print_found(found: calls::Found) {
             listing::print_number(b"slot ", slot);
             listing::print_line_end();
         }
-        calls::Found::Refusal { number, place } => listing::print_refused(number, place),
-        calls::Found::Unchecked(checked) => listing::print_checked(checked),
+        calls::Found::Refused(refusal) => listing::print_refused(refusal),
     }
 }
 
@@ -83,24 +81,16 @@ fn print_count(count: usize, end: bool) {
     }
 }
 
-fn print_refusal(number: usize, place: usize) {
-    listing::print_number(b"refused ", number);
-    listing::print_number(b" at ", place);
-}
-
-fn print_unchecked(checked: rules::Checked) {
-    let rules::Checked::Refused { number, place } = checked else {
-        return;
-    };
-    print_refusal(number, place);
+fn print_refusal(refusal: laws::Refusal) {
+    listing::print_number(b"refused ", refusal.number as usize);
+    listing::print_number(b" at ", refusal.place);
 }
 
 // The line of a page: the answer, then the output, which a refusal must have kept.
 fn print_paged(paged: calls::Paged, out: &[u8]) {
     match paged {
         calls::Paged::Page { count, end } => print_count(count, end),
-        calls::Paged::Refusal { number, place } => print_refusal(number, place),
-        calls::Paged::Unchecked(checked) => print_unchecked(checked),
+        calls::Paged::Refused(refusal) => print_refusal(refusal),
     }
     print_front(out);
     listing::print_number(b" sum ", sum_of(out));

@@ -70,7 +70,7 @@ pub fn chain_fault(head: &[u8], layout: layout::Layout, marks: &mut [bool; 1600]
         let place = slot;
         loop {
             if !map::is_link(layout, block) {
-                break 'slots view::Ruled::Fail { number: 6, place };
+                break 'slots view::Ruled::Fail(laws::Refusal { number: 6, place });
             }
             marks[block] = true;
             let value = map::map_at(head, block);
@@ -78,10 +78,10 @@ pub fn chain_fault(head: &[u8], layout: layout::Layout, marks: &mut [bool; 1600]
                 if value == mark {
                     continue 'slots;
                 }
-                break 'slots view::Ruled::Fail { number: 7, place };
+                break 'slots view::Ruled::Fail(laws::Refusal { number: 7, place });
             }
             if value == mark {
-                break 'slots view::Ruled::Fail { number: 7, place };
+                break 'slots view::Ruled::Fail(laws::Refusal { number: 7, place });
             }
             block = value;
             left -= 1;

@@ -25,6 +25,8 @@ use Rattle.map.specs.Map.{mapAt, freeCount, faultOf}
 use Rattle.view.specs.declared.Ruled.{Ruled}
 use Rattle.view.specs.declared.Ruled.the-variants.{Pass, Fail}
 use Rattle.view.specs.Disk.{View}
+use Rattle.laws.specs.declared.Refusal.{Refusal}
+use Rattle.laws.specs.Refusals.{refusalAt}
 use Rattle.view.specs.Rules.{orFail, walkOf, broken, sharing, stray, rules, badSystem, malformed, repeated}
 use Rattle.rules.specs.declared.Checked.{Checked}
 use Rattle.rules.specs.declared.Checked.the-variants.{Accepted, Refused}
@@ -47,7 +49,7 @@ checkKinds d b = orRefused (kindOf d b) 2 (λ k. checkAs k d b)
 
 -- ---- refusals 6 to 9, r being what the code's pass found
 
-fault-stop : (f : ℕ → ℕ) (w : Lowest) (next : Ruled) {r : Ruled} {n p : ℕ} → r ≡ orFail f w Pass → r ≡ Fail n p → r ≡ orFail f w next
+fault-stop : (f : ℕ → ℕ) (x : Lowest) (next : Ruled) {r : Ruled} {w : Refusal} → r ≡ orFail f x Pass → r ≡ Fail w → r ≡ orFail f x next
 fault-stop f (At k) next e t = e
 fault-stop f Nowhere next e t = absurd (let z : _≡_ {A = ℕ} 0 1 = cc in omega arith)
 
@@ -59,7 +61,7 @@ module _ (l : Layout) (v : View) where
   abbrev Chains : Ruled → Type 0
   Chains r = r ≡ orFail (λ s. faultOf (walkOf l v s)) (lowest (broken l v) 0 (l .slots)) Pass
 
-  pub chain-faulty : {r : Ruled} {n p : ℕ} → Chains r → r ≡ Fail n p → r ≡ chainRules l v
+  pub chain-faulty : {r : Ruled} {w : Refusal} → Chains r → r ≡ Fail w → r ≡ chainRules l v
   unfolding chainRules
   chain-faulty e t = fault-stop (λ s. faultOf (walkOf l v s)) (lowest (broken l v) 0 (l .slots)) _ e t
 
@@ -67,12 +69,12 @@ module _ (l : Layout) (v : View) where
   chain-clean e t = fault-none (λ s. faultOf (walkOf l v s)) (lowest (broken l v) 0 (l .slots)) e t
 
   module _ (clean : lowest (broken l v) 0 (l .slots) ≡ Nowhere) {shared : Lowest} (claims : shared ≡ lowest (sharing l v) 0 (l .slots)) where
-    pub chain-shared : {s : ℕ} → shared ≡ At s → Fail 8 s ≡ chainRules l v
+    pub chain-shared : {s : ℕ} → shared ≡ At s → Fail (refusalAt 8 s) ≡ chainRules l v
     unfolding chainRules
     chain-shared t = rw (clean, ← claims, t) refl
 
     module _ (apart : shared ≡ Nowhere) {found : Lowest} (strays : found ≡ lowest (stray l v) (l .first) (l .blocks - l .first)) where
-      pub chain-stray : {b : ℕ} → found ≡ At b → Fail 9 b ≡ chainRules l v
+      pub chain-stray : {b : ℕ} → found ≡ At b → Fail (refusalAt 9 b) ≡ chainRules l v
       unfolding chainRules
       chain-stray t = rw (clean, ← claims, apart, ← strays, t) refl
 
@@ -83,17 +85,17 @@ module _ (l : Layout) (v : View) where
   -- ---- refusals 3 to 5
 
   module _ {system : Lowest} (first : system ≡ lowest (badSystem l v) 0 (l .system)) where
-    pub rules-system : {k : ℕ} → system ≡ At k → Fail 3 k ≡ rules l v
+    pub rules-system : {k : ℕ} → system ≡ At k → Fail (refusalAt 3 k) ≡ rules l v
     unfolding rules
     rules-system t = rw (← first, t) refl
 
     module _ (right : system ≡ Nowhere) {form : Lowest} (second : form ≡ lowest (malformed l v) 0 (l .slots)) where
-      pub rules-form : {s : ℕ} → form ≡ At s → Fail 4 s ≡ rules l v
+      pub rules-form : {s : ℕ} → form ≡ At s → Fail (refusalAt 4 s) ≡ rules l v
       unfolding rules
       rules-form t = rw (← first, right, ← second, t) refl
 
       module _ (formed : form ≡ Nowhere) {name : Lowest} (third : name ≡ lowest (repeated l v) 0 (l .slots)) where
-        pub rules-name : {s : ℕ} → name ≡ At s → Fail 5 s ≡ rules l v
+        pub rules-name : {s : ℕ} → name ≡ At s → Fail (refusalAt 5 s) ≡ rules l v
         unfolding rules
         rules-name t = rw (← first, right, ← second, formed, ← third, t) refl
 
@@ -121,7 +123,7 @@ module _ (k : Kind) (d : Density) {l : Layout} (made : l ≡ layoutOf k d) where
     unfolding checkAs
     as-pass t f n = rw (← made, ← ruled, t, f, n) refl
 
-    pub as-fail : {n p : ℕ} → r ≡ Fail n p → Refused n p ≡ checkAs k d b
+    pub as-fail : {w : Refusal} → r ≡ Fail w → Refused w ≡ checkAs k d b
     unfolding checkAs
     as-fail t = rw (← made, ← ruled, t) refl
 
@@ -142,7 +144,7 @@ module _ (d : Density) (b : ℕ → ℕ) where
     pub kinds-1000 : q ≡ true → checkAs S1000 d b ≡ checkKinds d b
     kinds-1000 u = kinds-are (kind-by false true d b (sym e ∙ t) (sym f ∙ u))
 
-    pub kinds-none : q ≡ false → Refused 2 0 ≡ checkKinds d b
+    pub kinds-none : q ≡ false → Refused (refusalAt 2 0) ≡ checkKinds d b
     kinds-none u = kinds-are (kind-by false false d b (sym e ∙ t) (sym f ∙ u))
 
 module _ (head : List ℕ) (size : ℕ) where
@@ -151,11 +153,11 @@ module _ (head : List ℕ) (size : ℕ) where
   none-by t u p q h = rw (ne-eqb size (lengthOf Low) (λ e. omega arith), ne-eqb size (lengthOf High) (λ e. omega arith)) refl
 
   -- a head that is short: it isn't all that it could be, or the image itself is short
-  pub start-short : length head < 5120 → Refused 1 0 ≡ checkStart head size
+  pub start-short : length head < 5120 → Refused (refusalAt 1 0) ≡ checkStart head size
   unfolding checkStart
   start-short h = go (ltb (length head) (min size 5120)) refl
     where
-      go : (t : Bool) → ltb (length head) (min size 5120) ≡ t → Refused 1 0 ≡ pick (ltb (length head) (min size 5120)) (Refused 1 0) (checkHead size (bytes head))
+      go : (t : Bool) → ltb (length head) (min size 5120) ≡ t → Refused (refusalAt 1 0) ≡ pick (ltb (length head) (min size 5120)) (Refused (refusalAt 1 0)) (checkHead size (bytes head))
       go true e = rw e refl
       go false e = rw (e, none-by _ _ refl refl (omega (arith, ltb-false (length head) (min size 5120) e))) refl
 
@@ -169,6 +171,6 @@ module _ (head : List ℕ) (size : ℕ) where
     start-high e =
         rw (le-ltb (length head) (min size 5120) (omega arith), ne-eqb size (lengthOf Low) (λ z. omega arith), eq-eqb size (lengthOf High) e) refl
 
-    pub start-none : (size ≡ lengthOf Low → ⊥) → (size ≡ lengthOf High → ⊥) → Refused 1 0 ≡ checkStart head size
+    pub start-none : (size ≡ lengthOf Low → ⊥) → (size ≡ lengthOf High → ⊥) → Refused (refusalAt 1 0) ≡ checkStart head size
     unfolding checkStart
     start-none p q = rw (le-ltb (length head) (min size 5120) (omega arith), ne-eqb size (lengthOf Low) p, ne-eqb size (lengthOf High) q) refl

@@ -23,17 +23,17 @@ fn chain_rules(head: &[u8], layout: layout::Layout) -> view::Ruled
     let marked = chains::count_marked(layout, &marks);
     let shared = chains::shared_slot(head, layout, marked);
     if let laws::Lowest::At(slot) = shared {
-        return view::Ruled::Fail {
+        return view::Ruled::Fail(laws::Refusal {
             number: 8,
             place: slot,
-        };
+        });
     }
     let stray = chains::stray_block(head, layout, &marks, marked);
     if let laws::Lowest::At(block) = stray {
-        return view::Ruled::Fail {
+        return view::Ruled::Fail(laws::Refusal {
             number: 9,
             place: block,
-        };
+        });
     }
     view::Ruled::Pass
 }
@@ -45,24 +45,24 @@ fn disk_rules(head: &[u8], layout: layout::Layout) -> view::Ruled
 {
     let system = chains::system_fault(head, layout);
     if let laws::Lowest::At(block) = system {
-        return view::Ruled::Fail {
+        return view::Ruled::Fail(laws::Refusal {
             number: 3,
             place: block,
-        };
+        });
     }
     let malformed = slots::form_fault(head, layout);
     if let laws::Lowest::At(slot) = malformed {
-        return view::Ruled::Fail {
+        return view::Ruled::Fail(laws::Refusal {
             number: 4,
             place: slot,
-        };
+        });
     }
     let repeated = slots::name_fault(head, layout);
     if let laws::Lowest::At(slot) = repeated {
-        return view::Ruled::Fail {
+        return view::Ruled::Fail(laws::Refusal {
             number: 5,
             place: slot,
-        };
+        });
     }
     chain_rules(head, layout)
 }
@@ -85,7 +85,7 @@ fn check_as(head: &[u8], kind: layout::Kind, density: layout::Density) -> rules:
                 free,
             }
         }
-        view::Ruled::Fail { number, place } => rules::Checked::Refused { number, place },
+        view::Ruled::Fail(refusal) => rules::Checked::Refused(refusal),
     }
 }
 
@@ -102,10 +102,10 @@ fn check_kinds(head: &[u8], density: layout::Density) -> rules::Checked
     if slots::has_identity(head, layout::layout_of(s1000, density)) {
         return check_as(head, s1000, density);
     }
-    rules::Checked::Refused {
+    rules::Checked::Refused(laws::Refusal {
         number: 2,
         place: 0,
-    }
+    })
 }
 
 // The check of an image of which the first 5,120 bytes are at hand, or all, and its length.
@@ -113,10 +113,10 @@ pub fn check_head(head: &[u8], length: usize) -> rules::Checked
     ensures { λ r. ⌜ r ≡ checkStart (now (head .entry)) length ⌝ }
 {
     if head.len() < 5120 {
-        return rules::Checked::Refused {
+        return rules::Checked::Refused(laws::Refusal {
             number: 1,
             place: 0,
-        };
+        });
     }
     let low = layout::Density::Low;
     if length == layout::image_length(low) {
@@ -126,10 +126,10 @@ pub fn check_head(head: &[u8], length: usize) -> rules::Checked
     if length == layout::image_length(high) {
         return check_kinds(head, high);
     }
-    rules::Checked::Refused {
+    rules::Checked::Refused(laws::Refusal {
         number: 1,
         place: 0,
-    }
+    })
 }
 
 // The check of an image.

@@ -13,12 +13,6 @@ pub enum Table {
     Keygroup,
 }
 
-// What a call on a sample or program file answers: a count, or a refusal's number and place (document 01, "The numbers given back").
-pub enum Counted {
-    Done(usize),
-    Refused { number: u32, place: usize },
-}
-
 // The rows of all tables, one table after another, offsets from 0. What the paper gives no range for is carried and has no row.
 const ROWS: [Row; 131] = [
     // S900 sample (section 3): rows 0 to 7.

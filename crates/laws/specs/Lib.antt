@@ -1,5 +1,6 @@
 pub mod Truth
 pub mod Scan
+pub mod Refusals
 pub mod Member
 pub mod Lists
 pub mod Reader

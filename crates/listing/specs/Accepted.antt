@@ -15,13 +15,14 @@ use Rattle.layout.specs.Layouts.{layoutOf, slotOffset}
 use Rattle.layout.specs.Right.{LayoutRight}
 use Rattle.rules.specs.declared.Checked.{Checked}
 use Rattle.rules.specs.declared.Checked.the-variants.{Accepted, Refused}
+use Rattle.laws.specs.Refusals.{refusalAt}
 use Rattle.rules.specs.Check.{checkStart}
 use Rattle.disk.specs.Steps.{start-short, made-right, directory-held}
 
 module _ (head : List ℕ) (size : ℕ) {c : Checked} {k : Kind} {d : Density} {f n : ℕ} (checked : c ≡ checkStart head size) (yes : c ≡ Accepted k d f n) where
   long-by : (t : Bool) → ltb (length head) 5120 ≡ t → 5120 ≤ length head
   long-by true e =
-      let short : Refused 1 0 ≡ checkStart head size = start-short head size (ltb-true (length head) 5120 e) in
+      let short : Refused (refusalAt 1 0) ≡ checkStart head size = start-short head size (ltb-true (length head) 5120 e) in
       absurd (let z : _≡_ {A = ℕ} 0 1 = cc in omega arith)
   long-by false e = ltb-false (length head) 5120 e
 

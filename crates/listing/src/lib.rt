@@ -67,9 +67,9 @@ fn print_density(density: layout::Density) {
 }
 
 // The line of a refusal.
-pub fn print_refused(number: usize, place: usize) {
-    print_number(b"refused ", number);
-    print_number(b" at ", place);
+pub fn print_refused(refusal: laws::Refusal) {
+    print_number(b"refused ", refusal.number as usize);
+    print_number(b" at ", refusal.place);
     print_line_end();
 }
 
@@ -88,7 +88,7 @@ pub fn print_checked(checked: rules::Checked) {
             print_number(b" free ", free);
             print_line_end();
         }
-        rules::Checked::Refused { number, place } => print_refused(number, place),
+        rules::Checked::Refused(refusal) => print_refused(refusal),
     }
 }
 

@@ -10,6 +10,11 @@ use native.Mathlib.Omega.{arith}
 use lib.Dec.{ltb}
 use lib.ListN.{length, take}
 use borrow.Author.Tests.{lt-ltb, le-ltb, ltb-false}
+use Rattle.laws.specs.declared.Refusal.{Refusal}
+use Rattle.laws.specs.declared.Counted.{Counted}
+use Rattle.laws.specs.declared.Counted.the-variants.{Done}
+use Rattle.laws.specs.declared.Counted.the-variants as counted
+use Rattle.laws.specs.Refusals.{refusalAt, Filled, refused-done}
 use Rattle.laws.specs.Member.{In}
 use Rattle.laws.specs.Scan.{lowest-cong}
 use Rattle.laws.specs.declared.Lowest.{Lowest}
@@ -26,18 +31,17 @@ use Rattle.map.specs.Map.{mapAt}
 use Rattle.map.specs.Chains.{length-chain, chain-cong, chain-data, chain-short}
 use Rattle.view.specs.Disk.{File, used, entryChain, chainOf, contentOf, filesOf}
 use Rattle.image.specs.Image.{viewOf, filesIn, DiskRules}
-use Rattle.record.specs.Record.{Call, list, find, page, Outcome, named, refuseIf, orRefuse, slotOf, fileAt, judgeName, listing, paging}
+use Rattle.record.specs.Record.{Call, list, find, page, refusedBy, Outcome, named, refuseIf, orRefuse, slotOf, fileAt, judgeName, listing, paging}
 use Rattle.record.specs.declared.Judged.{Judged}
 use Rattle.record.specs.declared.Judged.the-variants.{Grant}
 use Rattle.rules.specs.declared.Checked.{Checked}
 use Rattle.rules.specs.declared.Checked.the-variants.{Accepted, Refused}
-use Rattle.rules.specs.Check.{checkOf, answerOf, callOf}
+use Rattle.rules.specs.Check.{checkOf, refusalOf, callOf}
 use Rattle.rules.specs.Accepted.{accepted-rules}
 use Rattle.rules.specs.Head.{head-holds, head-agree, head-decides, same-map, same-entry}
 use Rattle.calls.specs.Answers.{foundOf, foundBy, call-refused}
 use Rattle.calls.specs.Slots.{file-above, file-empty, file-used, file-length}
 use Rattle.calls.specs.Done.{list-done, find-done, page-done}
-use Rattle.locate.specs.Locate as locate
 use Rattle.locate.specs.Locate.{fileBlocks, storing, blocksBy, blocksOf}
 
 -- y has x's length and x's first 5,120 bytes.
@@ -45,9 +49,18 @@ pub record SameHead (x y : List ℕ) : Type 0 where
   pub size : length y ≡ length x
   pub head : take 5120 y ≡ take 5120 x
 
+-- A count, 0 where a call was refused.
+abbrev pub countIn : Counted → ℕ
+countIn (Done count) = count
+countIn (counted.Refused r) = 0
+
 -- The blocks that a call for them gave.
-abbrev pub given : locate.Outcome → List ℕ
-given o = take (o .answer .count) (o .output)
+abbrev pub given : Filled ℕ → List ℕ
+given f = take (countIn (f .answer)) (f .output)
+
+-- Refusal 21.
+abbrev pub noRoom : Counted
+noRoom = counted.Refused (refusalAt 21 0)
 
 -- A call answers alike on both, and leaves the same output.
 pub record Alike (x y : List ℕ) (c : Call) : Type 0 where
@@ -148,7 +161,7 @@ paging-by x y (some f) offset out = go (ltb (length (f .content)) offset) refl
     go false e = rw e (refl, refl)
 
 -- the blocks given are those stored, unless there was no room
-given-all : (blocks room : List ℕ) → (storing blocks room .answer .refusal ≡ 21 → ⊥) → given (storing blocks room) ≡ blocks
+given-all : (blocks room : List ℕ) → (storing blocks room .answer ≡ noRoom → ⊥) → given (storing blocks room) ≡ blocks
 unfolding part
 given-all [] room n = refl
 given-all (b ∷ bs) room n = go (ltb (length room) (length (b ∷ bs))) refl
@@ -160,13 +173,13 @@ given-all (b ∷ bs) room n = go (ltb (length room) (length (b ∷ bs))) refl
 -- ---- the theorems: y has x's length and first 5,120 bytes
 
 module _ (x y : List ℕ) (same : SameHead x y) where
-  refused-alike : {n p : ℕ} → checkOf x ≡ Refused n p → (c : Call) → Alike x y c
+  refused-alike : {r : Refusal} → checkOf x ≡ Refused r → (c : Call) → Alike x y c
   refused-alike e c =
-      let a = call-refused x c refl e in
-      let b = call-refused y c refl (check-same x y same ∙ e) in
+      let a = call-refused x c refl e refl in
+      let b = call-refused y c refl (check-same x y same ∙ e) refl in
       let t = check-same x y same in
       record {
-        answer = ap (λ (o : Outcome (List ℕ)). o .answer) (sym b) ∙ ap answerOf t ∙ ap (λ (o : Outcome (List ℕ)). o .answer) a;
+        answer = ap (λ (o : Outcome (List ℕ)). o .answer) (sym b) ∙ ap (λ (w : Checked). refusedBy (refusalOf w)) t ∙ ap (λ (o : Outcome (List ℕ)). o .answer) a;
         output = ap (λ (o : Outcome (List ℕ)). o .output) (sym b) ∙ ap (λ (o : Outcome (List ℕ)). o .output) a;
       }
 
@@ -175,7 +188,7 @@ module _ (x y : List ℕ) (same : SameHead x y) where
   list-enough s = go (checkOf x) refl
     where
       go : (c : Checked) → checkOf x ≡ c → Alike x y (list s)
-      go (Refused n p) e = refused-alike e (list s)
+      go (Refused r) e = refused-alike e (list s)
       go (Accepted k d f n) e =
           let l = layoutOf k d in
           let a = list-done x refl e refl s in
@@ -190,7 +203,7 @@ module _ (x y : List ℕ) (same : SameHead x y) where
   find-enough name = go (checkOf x) refl
     where
       go : (c : Checked) → checkOf x ≡ c → Alike x y (find name)
-      go (Refused n p) e = refused-alike e (find name)
+      go (Refused r) e = refused-alike e (find name)
       go (Accepted k d f n) e =
           let a = find-done x refl e refl name refl refl in
           let b = find-done y refl (check-same x y same ∙ e) refl name refl refl in
@@ -205,20 +218,20 @@ module _ (x y : List ℕ) (same : SameHead x y) where
   blocks-enough s out = rw (check-same x y same) (go (checkOf x) refl)
     where
       go : (c : Checked) → checkOf x ≡ c → blocksBy c y s out ≡ blocksBy c x s out
-      go (Refused n p) e = refl
+      go (Refused r) e = refl
       go (Accepted k d f n) e =
           let l = layoutOf k d in
           ap (λ (bs : List ℕ). storing bs out) (blocks-by x y same e s (decLt s (l .slots)) (used (viewOf l (bytes x) .entry s)) refl)
 
   -- A page needs the blocks besides that such a call gave, to an output with room for them.
-  pub page-enough : (s : ℕ) (room : List ℕ) → (blocksOf x s room .answer .refusal ≡ 21 → ⊥)
+  pub page-enough : (s : ℕ) (room : List ℕ) → (blocksOf x s room .answer ≡ noRoom → ⊥)
       → ((b : ℕ) → In b (given (blocksOf x s room)) → blockAt (bytes y) b ≡ blockAt (bytes x) b)
       → (offset : ℕ) (out : List ℕ) → Alike x y (page s offset out)
   unfolding blocksOf
   page-enough s room fits held offset out = go (checkOf x) refl
     where
       go : (c : Checked) → checkOf x ≡ c → Alike x y (page s offset out)
-      go (Refused n p) e = refused-alike e (page s offset out)
+      go (Refused r) e = refused-alike e (page s offset out)
       go (Accepted k d f n) e =
           let l = layoutOf k d in
           let a = page-done x refl e refl s offset out in
@@ -251,12 +264,12 @@ pub blocks-most : (k : Kind) (d : Density) (f n : ℕ) (img : List ℕ) → chec
     → length (fileBlocks (layoutOf k d) img s) ≤ layoutOf k d .blocks - layoutOf k d .first
 blocks-most k d f n img e s = blocks-few k d f n img e s (decLt s (layoutOf k d .slots)) (used (viewOf (layoutOf k d) (bytes img) .entry s)) refl
 
-stored : (blocks out : List ℕ) → length blocks ≤ length out → storing blocks out .answer .refusal ≡ 21 → ⊥
-stored [] out h e = absurd (omega arith)
-stored (b ∷ bs) out h e = let z = rw (le-ltb (length out) (length (b ∷ bs)) h) at e in absurd (omega arith)
+stored : (blocks out : List ℕ) → length blocks ≤ length out → storing blocks out .answer ≡ noRoom → ⊥
+stored [] out h e = let z : refusalAt 10 0 ≡ refusalAt 21 0 = cc in let n : _≡_ {A = ℕ} 10 21 = ap (λ (r : Refusal). r .number) z in absurd (omega arith)
+stored (b ∷ bs) out h e = refused-done (sym (rw (le-ltb (length out) (length (b ∷ bs)) h) at e))
 
 -- So an output with that much room is never refused by 21.
 pub room-enough : (k : Kind) (d : Density) (f n : ℕ) (img : List ℕ) → checkOf img ≡ Accepted k d f n → (s : ℕ) (out : List ℕ)
-    → layoutOf k d .blocks - layoutOf k d .first ≤ length out → blocksOf img s out .answer .refusal ≡ 21 → ⊥
+    → layoutOf k d .blocks - layoutOf k d .first ≤ length out → blocksOf img s out .answer ≡ noRoom → ⊥
 unfolding blocksOf
 room-enough k d f n img e s out h r = stored (fileBlocks (layoutOf k d) img s) out (omega (arith, blocks-most k d f n img e s)) (rw e at r)

@@ -9,6 +9,9 @@ use lib.Dec.{ltb}
 use lib.ListN.{length}
 use borrow.Author.Tests.{lt-ltb, le-ltb}
 use Rattle.laws.specs.Truth.{pick}
+use Rattle.laws.specs.declared.Refusal.{Refusal}
+use Rattle.laws.specs.declared.Counted.the-variants.{Done, Refused}
+use Rattle.laws.specs.Refusals.{refusalAt, Filled, filled}
 use Rattle.laws.specs.Splice.{splice}
 use Rattle.laws.specs.Reader.{bytes}
 use Rattle.layout.specs.declared.Kind.{Kind}
@@ -22,39 +25,9 @@ use Rattle.map.specs.Chains.{length-chain}
 use Rattle.view.specs.Disk.{used, entryChain, chainOf}
 use Rattle.image.specs.Image.{viewOf}
 use Rattle.rules.specs.declared.Checked.{Checked}
-use Rattle.rules.specs.declared.Checked.the-variants.{Accepted, Refused}
-use Rattle.rules.specs.Check.{checkOf}
-use Rattle.locate.specs.declared.Located.{Located}
-use Rattle.locate.specs.declared.Located.the-variants.{Blocks, Refusal, Unchecked}
-
--- An answer's numbers: the refusal, 0 for none, with its place; and how many blocks there are.
-pub record Numbers : Type 0 where
-  pub refusal : ℕ
-  pub place : ℕ
-  pub count : ℕ
-
-abbrev pub refusedBy : ℕ → ℕ → Numbers
-refusedBy number place = record { refusal = number; place = place; count = 0 }
-
-abbrev pub counted : ℕ → Numbers
-counted count = record { refusal = 0; place = 0; count = count }
-
-abbrev pub uncheckedBy : Checked → Numbers
-uncheckedBy (Accepted kind density files free) = counted 0
-uncheckedBy (Refused number place) = refusedBy number place
-
-abbrev pub numbersOf : Located → Numbers
-numbersOf (Blocks count) = counted count
-numbersOf (Refusal number place) = refusedBy number place
-numbersOf (Unchecked checked) = uncheckedBy checked
-
--- What the call comes to: its answer, and the lent output afterwards.
-pub record Outcome : Type 0 where
-  pub answer : Numbers
-  pub output : List ℕ
-
-abbrev pub located : Numbers → List ℕ → Outcome
-located answer output = record { answer = answer; output = output }
+use Rattle.rules.specs.declared.Checked.the-variants.{Accepted}
+use Rattle.rules.specs.declared.Checked.the-variants as checks
+use Rattle.rules.specs.Check.{checkOf, refusalOf}
 
 -- The blocks of a slot's file, none if there is none.
 unfoldable pub fileBlocks : Layout → List ℕ → ℕ → List ℕ
@@ -62,17 +35,17 @@ unfolding chainOf
 fileBlocks l img s = pick (ltb s (l .slots)) (chainOf (viewOf l (bytes img)) s) []
 
 -- By the blocks there are: 10 for none, 21 for an output without room for all, else they stand at its front and what lies past them is kept.
-abbrev pub storing : List ℕ → List ℕ → Outcome
-storing [] out = located (refusedBy 10 0) out
-storing (b ∷ bs) out = pick (ltb (length out) (length (b ∷ bs))) (located (refusedBy 21 0) out) (located (counted (length (b ∷ bs))) (splice out 0 (b ∷ bs)))
+abbrev pub storing : List ℕ → List ℕ → Filled ℕ
+storing [] out = filled (Refused (refusalAt 10 0)) out
+storing (b ∷ bs) out = pick (ltb (length out) (length (b ∷ bs))) (filled (Refused (refusalAt 21 0)) out) (filled (Done (length (b ∷ bs))) (splice out 0 (b ∷ bs)))
 
 -- By the check's answer: its refusal, or the slot's blocks.
-abbrev pub blocksBy : Checked → List ℕ → ℕ → List ℕ → Outcome
-blocksBy (Refused number place) img s out = located (refusedBy number place) out
+abbrev pub blocksBy : Checked → List ℕ → ℕ → List ℕ → Filled ℕ
+blocksBy (checks.Refused r) img s out = filled (Refused r) out
 blocksBy (Accepted k d files free) img s out = storing (fileBlocks (layoutOf k d) img s) out
 
 -- The call on any bytes.
-unfoldable pub blocksOf : List ℕ → ℕ → List ℕ → Outcome
+unfoldable pub blocksOf : List ℕ → ℕ → List ℕ → Filled ℕ
 unfolding fileBlocks splice
 blocksOf img s out = blocksBy (checkOf img) img s out
 
@@ -88,17 +61,17 @@ module _ (l : Layout) (img : List ℕ) (s : ℕ) where
   none-empty h e = rw (lt-ltb s (l .slots) h, e) refl
 
   module _ (out : List ℕ) where
-    pub blocks-above : l .slots ≤ s → located (refusedBy 10 0) out ≡ storing (fileBlocks l img s) out
+    pub blocks-above : l .slots ≤ s → filled (Refused (refusalAt 10 0)) out ≡ storing (fileBlocks l img s) out
     blocks-above h = rw (none-above h) refl
 
-    pub blocks-empty : s < l .slots → used (viewOf l (bytes img) .entry s) ≡ false → located (refusedBy 10 0) out ≡ storing (fileBlocks l img s) out
+    pub blocks-empty : s < l .slots → used (viewOf l (bytes img) .entry s) ≡ false → filled (Refused (refusalAt 10 0)) out ≡ storing (fileBlocks l img s) out
     blocks-empty h e = rw (none-empty h e) refl
 
-store-short : (blocks out : List ℕ) → 1 ≤ length blocks → length out < length blocks → located (refusedBy 21 0) out ≡ storing blocks out
+store-short : (blocks out : List ℕ) → 1 ≤ length blocks → length out < length blocks → filled (Refused (refusalAt 21 0)) out ≡ storing blocks out
 store-short [] out h k = absurd (omega arith)
 store-short (b ∷ bs) out h k = rw (lt-ltb (length out) (length (b ∷ bs)) k) refl
 
-store-all : (blocks out : List ℕ) → 1 ≤ length blocks → length blocks ≤ length out → located (counted (length blocks)) (splice out 0 blocks) ≡ storing blocks out
+store-all : (blocks out : List ℕ) → 1 ≤ length blocks → length blocks ≤ length out → filled (Done (length blocks)) (splice out 0 blocks) ≡ storing blocks out
 store-all [] out h k = absurd (omega arith)
 store-all (b ∷ bs) out h k = rw (le-ltb (length out) (length (b ∷ bs)) k) refl
 
@@ -113,20 +86,20 @@ module _ (l : Layout) (img : List ℕ) (s : ℕ) (inside : s < l .slots) (here :
     some-block : 1 ≤ length (chain (mapAt (bytes img)) (linksFor size) start)
     some-block = omega (arith, length-chain (mapAt (bytes img)) (linksFor size) start)
 
-    pub blocks-short : length out < r .count → located (refusedBy 21 0) out ≡ storing (fileBlocks l img s) out
+    pub blocks-short : length out < r .count → filled (Refused (refusalAt 21 0)) out ≡ storing (fileBlocks l img s) out
     blocks-short h = rw blocks-are (store-short (chain (mapAt (bytes img)) (linksFor size) start) out some-block (omega (arith, collected .count)))
 
     pub blocks-all : {lent after : List ℕ} → r .count ≤ length out → lent ≡ chain (mapAt (bytes img)) (linksFor size) start → after ≡ splice out 0 lent
-        → located (counted (r .count)) after ≡ storing (fileBlocks l img s) out
+        → filled (Done (r .count)) after ≡ storing (fileBlocks l img s) out
     blocks-all h e t =
         rw (blocks-are, t, e, collected .count) (store-all (chain (mapAt (bytes img)) (linksFor size) start) out some-block (omega (arith, collected .count)))
 
 -- ---- by the check's answer
 
 module _ (img : List ℕ) (s : ℕ) (out : List ℕ) {c : Checked} (checked : c ≡ checkOf img) where
-  pub blocks-refused : {n p : ℕ} → c ≡ Refused n p → located (uncheckedBy c) out ≡ blocksOf img s out
+  pub blocks-refused : {r q : Refusal} → c ≡ checks.Refused r → q ≡ refusalOf c → filled (Refused q) out ≡ blocksOf img s out
   unfolding blocksOf
-  blocks-refused e = rw (← checked, e) refl
+  blocks-refused e t = rw (← checked, t, e) refl
 
   pub blocks-done : {k : Kind} {d : Density} {f n : ℕ} → c ≡ Accepted k d f n → {l : Layout} → l ≡ layoutOf k d → storing (fileBlocks l img s) out ≡ blocksOf img s out
   unfolding blocksOf

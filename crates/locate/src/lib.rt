@@ -3,17 +3,11 @@
 ghost use mathlib.Core.Path.{_≡_};
 ghost use Prim.Native.Nat.{_≤_};
 ghost use lib.ListN.{length};
+ghost use Rattle.laws.specs.Refusals.{filled};
 ghost use Rattle.laws.specs.Splice.{splice};
 ghost use Rattle.layout.specs.Right.{LayoutRight};
 ghost use Rattle.image.specs.Image.{DiskRules};
-ghost use Rattle.locate.specs.Locate.{located, numbersOf, fileBlocks, storing, blocksOf};
-
-// How many blocks a file has, a refusal of the call's own, or the check's refusal.
-pub enum Located {
-    Blocks(usize),
-    Refusal { number: usize, place: usize },
-    Unchecked(rules::Checked),
-}
+ghost use Rattle.locate.specs.Locate.{fileBlocks, storing, blocksOf};
 
 // Copies blocks to the output's front.
 fn copy_blocks(list: &[u16], out: &mut [u16])
@@ -28,22 +22,22 @@ fn copy_blocks(list: &[u16], out: &mut [u16])
 }
 
 // The blocks of a slot's file of an accepted image: 10, 21.
-fn slot_blocks(image: &[u8], layout: layout::Layout, slot: usize, out: &mut [u16]) -> Located
+fn slot_blocks(image: &[u8], layout: layout::Layout, slot: usize, out: &mut [u16]) -> laws::Counted
     requires { ⌜ LayoutRight layout × DiskRules layout (now image) ⌝ }
-    ensures { λ r. ⌜ located (numbersOf r) (now (out .exit)) ≡ storing (fileBlocks layout (now (image .entry)) slot) (now (out .entry)) ⌝ }
+    ensures { λ r. ⌜ filled r (now (out .exit)) ≡ storing (fileBlocks layout (now (image .entry)) slot) (now (out .entry)) ⌝ }
 {
     let slots = layout.slots;
     if slots <= slot {
-        return Located::Refusal {
+        return laws::Counted::Refused(laws::Refusal {
             number: 10,
             place: 0,
-        };
+        });
     }
     if !slots::is_used(image, layout, slot) {
-        return Located::Refusal {
+        return laws::Counted::Refused(laws::Refusal {
             number: 10,
             place: 0,
-        };
+        });
     }
     let size = slots::size_of(image, layout, slot);
     let start = slots::start_of(image, layout, slot);
@@ -51,18 +45,18 @@ fn slot_blocks(image: &[u8], layout: layout::Layout, slot: usize, out: &mut [u16
     let list = chain.list;
     let count = chain.count;
     if out.len() < count {
-        return Located::Refusal {
+        return laws::Counted::Refused(laws::Refusal {
             number: 21,
             place: 0,
-        };
+        });
     }
     copy_blocks(&list[0..count], out);
-    Located::Blocks(count)
+    laws::Counted::Done(count)
 }
 
 // The blocks of a slot's file, in order, to the front of the output, and how many they are.
-pub fn file_blocks(image: &[u8], slot: usize, out: &mut [u16]) -> Located
-    ensures { λ r. ⌜ located (numbersOf r) (now (out .exit)) ≡ blocksOf (now (image .entry)) slot (now (out .entry)) ⌝ }
+pub fn file_blocks(image: &[u8], slot: usize, out: &mut [u16]) -> laws::Counted
+    ensures { λ r. ⌜ filled r (now (out .exit)) ≡ blocksOf (now (image .entry)) slot (now (out .entry)) ⌝ }
 {
     let checked = disk::check(image);
     let rules::Checked::Accepted {
@@ -72,7 +66,7 @@ pub fn file_blocks(image: &[u8], slot: usize, out: &mut [u16]) -> Located
         free: _,
     } = checked
     else {
-        return Located::Unchecked(checked);
+        return laws::Counted::Refused(rules::refusal_of(checked));
     };
     let layout = layout::layout_of(kind, density);
     slot_blocks(image, layout, slot, out)

@@ -11,12 +11,14 @@ use lib.Dec.{leb, eqb}
 use lib.ListN.{length}
 use borrow.Author.Tests.{leb-true, eqb-true}
 use Rattle.laws.specs.Truth.{both-true, within}
+use Rattle.laws.specs.Refusals.{refusalAt, refused-done}
 use Rattle.laws.specs.declared.Lowest.{Lowest}
+use Rattle.laws.specs.declared.Refusal.{Refusal}
 use Rattle.laws.specs.declared.Lowest.the-variants.{At, Nowhere}
 use Rattle.rows.specs.Rows.{orElse}
 use Rattle.rows.specs.Failing.{Least, inOrder, failing-in, lowest-failing, faultless, kept-nowhere, never, none-of}
 use Rattle.headers.specs.declared.Table.the-variants.{Program, Keygroup}
-use Rattle.headers.specs.declared.Counted.the-variants.{Done, Refused}
+use Rattle.laws.specs.declared.Counted.the-variants.{Done, Refused}
 use Rattle.headers.specs.Tables.{rowsOf}
 use Rattle.headers.specs.Order.{tables-in-order}
 use Rattle.program.specs.Program.{tableOf, partAt, keygroupsOf, partFault, partsFault, counted, answerOf, programOf, PartKept, PartFails, Sized, ProgramRules, Fails}
@@ -112,16 +114,13 @@ counted→ file n s e =
 sized-answer : (file : List ℕ) (n : ℕ) → Sized file n → programOf file ≡ answerOf n (partsFault file 0 (n + 1))
 sized-answer file n s = sym (program-answer file (omega (arith, s .size)) (sym (s .stated)) (s .some) (s .most) (s .size) refl refl refl)
 
-refused-done : {number place n : ℕ} → Refused number place ≡ Done n → ⊥
-refused-done e = let o : _≡_ {A = ℕ} 0 1 = cc in omega arith
-
 answer-done : (m n : ℕ) (w : Lowest) → answerOf m w ≡ Done n → (m ≡ n) × (w ≡ Nowhere)
 answer-done m n (At place) e = absurd (refused-done e)
 answer-done m n Nowhere e = (cc, refl)
 
-answer-refused : (m number place : ℕ) (w : Lowest) → answerOf m w ≡ Refused number place → (number ≡ 20) × (w ≡ At place)
-answer-refused m number place (At x) e = (cc, cc)
-answer-refused m number place Nowhere e = absurd (refused-done (sym e))
+answer-refused : (m : ℕ) (r : Refusal) (w : Lowest) → answerOf m w ≡ Refused r → (r .number ≡ 20) × (w ≡ At (r .place))
+answer-refused m r (At x) e = let z : r ≡ refusalAt 20 x = cc in (ap (λ (q : Refusal). q .number) z, ap (λ (q : Refusal). At (q .place)) (sym z))
+answer-refused m r Nowhere e = absurd (refused-done (sym e))
 
 module _ (file : List ℕ) (n : ℕ) where
   done-sized : programOf file ≡ Done n → Sized file n
@@ -150,10 +149,10 @@ module _ (file : List ℕ) (n : ℕ) where
   program-accepted = (done→, →done)
 
   -- A file of the right length for its n keygroups is refused with 20 at its lowest failing offset.
-  pub program-lowest : (number place : ℕ) → Sized file n → programOf file ≡ Refused number place → (number ≡ 20) × Least (Fails file n) place
-  program-lowest number place s e =
-      let d = answer-refused n number place (partsFault file 0 (n + 1)) (sym (sized-answer file n s) ∙ e) in
-      let l = parts-least file (n + 1) 0 place (d .1) in (
+  pub program-lowest : (r : Refusal) → Sized file n → programOf file ≡ Refused r → (r .number ≡ 20) × Least (Fails file n) (r .place)
+  program-lowest r s e =
+      let d = answer-refused n r (partsFault file 0 (n + 1)) (sym (sized-answer file n s) ∙ e) in
+      let l = parts-least file (n + 1) 0 (r .place) (d .1) in (
         d .0,
         record {
           holds = record { index = l .holds .index; inside = omega (arith, l .holds .below); failing = l .holds .failing };

@@ -15,7 +15,7 @@ use Rattle.laws.specs.declared.Lowest.the-variants.{At, Nowhere}
 use Rattle.rows.specs.Rows.{orElse, rowsFault}
 use Rattle.headers.specs.declared.Table.{Table}
 use Rattle.headers.specs.declared.Table.the-variants.{Keygroup}
-use Rattle.headers.specs.declared.Counted.{Counted}
+use Rattle.laws.specs.declared.Counted.{Counted}
 use Rattle.headers.specs.Tables.{rowsOf}
 use Rattle.program.specs.Program.{tableOf, keygroupsOf, partFault, partsFault, counted, refusedAt, answerOf, programOf}
 

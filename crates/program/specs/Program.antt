@@ -7,6 +7,7 @@ use Prim.Native.Nat.{ℕ, zero, suc, _+_, _*_, _≤_}
 use lib.Dec.{ltb, eqb}
 use lib.ListN.{length}
 use Rattle.laws.specs.Truth.{pick, both, within}
+use Rattle.laws.specs.Refusals.{refusalAt}
 use Rattle.laws.specs.Scan.{over}
 use Rattle.laws.specs.Splice.{part}
 use Rattle.laws.specs.Reader.{bytes}
@@ -16,8 +17,8 @@ use Rattle.rows.specs.Rows.{orElse, rowsFault}
 use Rattle.rows.specs.Failing.{AllKept, Failing}
 use Rattle.headers.specs.declared.Table.{Table}
 use Rattle.headers.specs.declared.Table.the-variants.{Program, Keygroup}
-use Rattle.headers.specs.declared.Counted.{Counted}
-use Rattle.headers.specs.declared.Counted.the-variants.{Done, Refused}
+use Rattle.laws.specs.declared.Counted.{Counted}
+use Rattle.laws.specs.declared.Counted.the-variants.{Done, Refused}
 use Rattle.headers.specs.Tables.{rowsOf}
 
 -- ---- parts
@@ -52,7 +53,7 @@ counted file n = both (within 1 99 n) (eqb (length file) (150 * (n + 1)))
 
 -- Refusal 20.
 abbrev pub refusedAt : ℕ → Counted
-refusedAt place = Refused 20 place
+refusedAt place = Refused (refusalAt 20 place)
 
 abbrev pub answerOf : ℕ → Lowest → Counted
 answerOf n (At place) = refusedAt place

@@ -32,15 +32,15 @@ fn parts_fault(file: &[u8], parts: usize) -> laws::Lowest
     laws::Lowest::Nowhere
 }
 
-fn refused(place: usize) -> headers::Counted
+fn refused(place: usize) -> laws::Counted
     ensures { λ r. ⌜ r ≡ refusedAt place ⌝ }
 {
-    headers::Counted::Refused { number: 20, place }
+    laws::Counted::Refused(laws::Refusal { number: 20, place })
 }
 
 // The number of keygroups, or refusal 20: at 0 for a file shorter than its header, at 42 for that number or the length, else at the lowest
 // failing offset.
-pub fn check(file: &[u8]) -> headers::Counted
+pub fn check(file: &[u8]) -> laws::Counted
     ensures { λ r. ⌜ r ≡ programOf (now (file .entry)) ⌝ }
 {
     if file.len() < 150 {
@@ -60,6 +60,6 @@ pub fn check(file: &[u8]) -> headers::Counted
     let fault = parts_fault(file, parts);
     match fault {
         laws::Lowest::At(place) => refused(place),
-        laws::Lowest::Nowhere => headers::Counted::Done(keygroups),
+        laws::Lowest::Nowhere => laws::Counted::Done(keygroups),
     }
 }

@@ -13,30 +13,13 @@ use lib.Seq.{take-at, take-add, take-all}
 use borrow.Author.Tests.{eqb-true, eq-eqb, lt-ltb, le-ltb}
 use Rattle.laws.specs.Splice.{part, length-part}
 use Rattle.view.specs.Disk.{File}
-use Rattle.record.specs.Record.{Shape, Files, Call, page, remove, Outcome, Answer, accepted, entry, slotIs, paged, done, refused, fileAt, pageOf, stepFiles}
+use Rattle.record.specs.Record.{Shape, Files, Call, page, remove, Outcome, fileAt, pageOf, stepFiles}
 use Rattle.record.specs.Others.{others}
 
 -- A download's own page, with the output that it lends, or another call.
 pub data Item : Type 0 where
   mine : List ℕ → Item
   other : Call → Item
-
--- What a page's answer counts, and whether it says the end.
-abbrev pub countOf : Answer → ℕ
-countOf (accepted k d f n) = 0
-countOf (entry n t s) = 0
-countOf (slotIs s) = 0
-countOf (paged n e) = n
-countOf done = 0
-countOf (refused n p) = 0
-
-abbrev pub endOf : Answer → Bool
-endOf (accepted k d f n) = false
-endOf (entry n t s) = false
-endOf (slotIs s) = false
-endOf (paged n e) = e
-endOf done = false
-endOf (refused n p) = false
 
 -- The joined bytes, the sum of the counts, and what the last page said.
 pub record Got : Type 0 where
@@ -49,7 +32,7 @@ nothing = record { bytes = []; sum = 0; ended = false }
 
 -- one page more: its counted bytes are put after those before
 abbrev pub withPage : {S : Type 0} → Got → Outcome S → Got
-withPage g r = record { bytes = g .bytes ++ take (countOf (r .answer)) (r .output); sum = g .sum + countOf (r .answer); ended = endOf (r .answer) }
+withPage g r = record { bytes = g .bytes ++ take (r .answer .value) (r .output); sum = g .sum + r .answer .value; ended = r .answer .end }
 
 -- The calls are made one after another, each on the state that the last one left; an own page is asked for at the sum of the
 -- counts before.

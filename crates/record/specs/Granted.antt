@@ -16,6 +16,7 @@ use Rattle.blocks.specs.Blocks.{blocksFor}
 use Rattle.names.specs.Names.{legalName, legalType}
 use Rattle.record.specs.Record.{Files, refuseIf, orRefuse, slotOf, emptySlot, free, judgeName, judgePut}
 use Rattle.record.specs.Order.{order-name, order-type, order-empty, order-taken, order-full, order-room}
+use Rattle.laws.specs.declared.Refusal.{Refusal}
 use Rattle.record.specs.declared.Judged.{Judged}
 use Rattle.record.specs.declared.Judged.the-variants.{Refuse, Grant}
 
@@ -47,8 +48,8 @@ pub record Puts (l : Layout) (files : Files) (name : List ℕ) (type : ℕ) (con
   pub short : ltb 16777215 (length content) ≡ false
 
 module _ (l : Layout) (files : Files) (name : List ℕ) (type : ℕ) (content : List ℕ) (s : ℕ) (granted : judgePut l files name type content ≡ Grant s) where
-  not-refused : {n p : ℕ} → judgePut l files name type content ≡ Refuse n p → ⊥
-  not-refused {n} {p} r = let q : Refuse n p ≡ Grant s = sym r ∙ granted in let z : _≡_ {A = ℕ} 0 1 = cc in absurd (omega arith)
+  not-refused : {w : Refusal} → judgePut l files name type content ≡ Refuse w → ⊥
+  not-refused {w} r = let q : Refuse w ≡ Grant s = sym r ∙ granted in let z : _≡_ {A = ℕ} 0 1 = cc in absurd (omega arith)
 
   legal : legalName l name ≡ true
   legal = true-if (legalName l name) (λ e. not-refused (order-name l files name type content e))

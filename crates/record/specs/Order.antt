@@ -11,7 +11,7 @@ use Rattle.laws.specs.declared.Lowest.the-variants.{At, Nowhere}
 use Rattle.layout.specs.declared.Layout.{Layout}
 use Rattle.blocks.specs.Blocks.{blocksFor}
 use Rattle.names.specs.Names.{legalName, legalType}
-use Rattle.record.specs.Record.{Files, refuseIf, slotOf, emptySlot, free, judgePut}
+use Rattle.record.specs.Record.{Files, refuse, refuseIf, slotOf, emptySlot, free, judgePut}
 use Rattle.record.specs.declared.Judged.{Judged}
 use Rattle.record.specs.declared.Judged.the-variants.{Refuse, Grant}
 
@@ -20,27 +20,27 @@ abbrev pub roomFor : ℕ → ℕ → ℕ → Judged
 roomFor free size slot = refuseIf (ltb free (blocksFor size)) 15 (refuseIf (ltb 16777215 size) 16 (Grant slot))
 
 module _ (l : Layout) (files : Files) (name : List ℕ) (type : ℕ) (content : List ℕ) where
-  pub order-name : legalName l name ≡ false → judgePut l files name type content ≡ Refuse 11 0
+  pub order-name : legalName l name ≡ false → judgePut l files name type content ≡ refuse 11 0
   unfolding judgePut
   order-name e = rw e refl
 
-  pub order-type : legalName l name ≡ true → legalType l type ≡ false → judgePut l files name type content ≡ Refuse 11 0
+  pub order-type : legalName l name ≡ true → legalType l type ≡ false → judgePut l files name type content ≡ refuse 11 0
   unfolding judgePut
   order-type legal e = rw (legal, e) refl
 
   module _ (legal : legalName l name ≡ true) (typed : legalType l type ≡ true) where
-    pub order-empty : length content ≡ 0 → judgePut l files name type content ≡ Refuse 13 0
+    pub order-empty : length content ≡ 0 → judgePut l files name type content ≡ refuse 13 0
     unfolding judgePut
     order-empty e = rw (legal, typed, eq-eqb (length content) 0 e) refl
 
     module _ (some : length content ≡ 0 → ⊥) where
       -- with an empty slot or without
-      pub order-taken : {s : ℕ} → slotOf l files name ≡ At s → judgePut l files name type content ≡ Refuse 12 s
+      pub order-taken : {s : ℕ} → slotOf l files name ≡ At s → judgePut l files name type content ≡ refuse 12 s
       unfolding judgePut
       order-taken e = rw (legal, typed, ne-eqb (length content) 0 some, e) refl
 
       -- with room or without
-      pub order-full : slotOf l files name ≡ Nowhere → emptySlot l files ≡ Nowhere → judgePut l files name type content ≡ Refuse 14 0
+      pub order-full : slotOf l files name ≡ Nowhere → emptySlot l files ≡ Nowhere → judgePut l files name type content ≡ refuse 14 0
       unfolding judgePut
       order-full new e = rw (legal, typed, ne-eqb (length content) 0 some, new, e) refl
 

@@ -26,14 +26,14 @@ module _ (shape : Shape) (files : Files) (t : ℕ) (f : File) (there : files t �
 
   put-keeps : (name : List ℕ) (type : ℕ) (content : List ℕ) (j : Judged) → judgePut l files name type content ≡ j → stepFiles shape files (put name type content) .state t ≡ some f
   unfolding stepFiles
-  put-keeps name type content (Refuse n p) e = rw e there
+  put-keeps name type content (Refuse r) e = rw e there
   put-keeps name type content (Grant s) e =
       let w = at→ (λ x. isEmpty (files x)) 0 (l .slots) s (unfold emptySlot in granted-put l files name type content s e .slot) in
       rw e (other-slot s _ (λ q. true≢false (sym (w .2) ∙ ap (λ (x : ℕ). isEmpty (files x)) (sym q) ∙ ap isEmpty there)))
 
   remove-keeps : (name : List ℕ) (j : Judged) → judgeName l files name ≡ j → (name ≡ f .name → ⊥) → stepFiles shape files (remove name) .state t ≡ some f
   unfolding stepFiles
-  remove-keeps name (Refuse n p) e ne = rw e there
+  remove-keeps name (Refuse r) e ne = rw e there
   remove-keeps name (Grant s) e ne =
       let w = at→ (λ x. named name (files x)) 0 (l .slots) s (unfold slotOf in granted-name l files name s e) in
       rw e (other-slot s none (λ q. ne (same-true name (f .name) (sym (ap (named name) there) ∙ ap (λ (x : ℕ). named name (files x)) q ∙ w .2))))

@@ -13,12 +13,16 @@ use Rattle.laws.specs.declared.Lowest.the-variants.{At, Nowhere}
 use Rattle.laws.specs.Lists.{same}
 use Rattle.laws.specs.Splice.{part}
 use Rattle.layout.specs.declared.Kind.{Kind}
+use Rattle.layout.specs.declared.Kind.the-variants.{S900, S1000}
 use Rattle.layout.specs.declared.Density.{Density}
+use Rattle.layout.specs.declared.Density.the-variants.{Low, High}
 use Rattle.layout.specs.declared.Layout.{Layout}
 use Rattle.layout.specs.Layouts.{layoutOf}
 use Rattle.blocks.specs.Blocks.{blocksFor}
 use Rattle.names.specs.Names.{legalName, legalType}
 use Rattle.view.specs.Disk.{File}
+use Rattle.laws.specs.declared.Refusal.{Refusal}
+use Rattle.laws.specs.Refusals.{refusalAt}
 use Rattle.record.specs.declared.Judged.{Judged}
 use Rattle.record.specs.declared.Judged.the-variants.{Refuse, Grant}
 use Rattle.view.specs.Counting.{takes}
@@ -45,19 +49,67 @@ pub data Call : Type 0 where
   put : List ℕ → ℕ → List ℕ → Call
   remove : List ℕ → Call
 
-pub data Answer : Type 0 where
-  -- the check's: kind, density, number of files, number of free blocks
-  accepted : Kind → Density → ℕ → ℕ → Answer
-  -- list's: name in ASCII, type, length
-  entry : List ℕ → ℕ → ℕ → Answer
-  -- find's and put's
-  slotIs : ℕ → Answer
-  -- page's: how many bytes, and whether the file's end is reached
-  paged : ℕ → Bool → Answer
-  -- remove's
-  done : Answer
-  -- a refusal's number and place
-  refused : ℕ → ℕ → Answer
+-- A call's answer: its fields are read, and those that the call doesn't give are 0 or empty.
+pub record Answer : Type 0 where
+  -- none where the call was done
+  pub refusal : Option Refusal
+  -- find's and put's slot, how many bytes a page has, list's length, the check's number of files
+  pub value : ℕ
+  -- the check's free blocks, kind and density
+  pub free : ℕ
+  pub kind : ℕ
+  pub density : ℕ
+  -- list's name in ASCII and type
+  pub name : List ℕ
+  pub type : ℕ
+  -- whether a page reaches the file's end
+  pub end : Bool
+
+-- A refusal's number, 0 for none; and its place, or what is given for none.
+abbrev pub numberIn : Option Refusal → ℕ
+numberIn none = 0
+numberIn (some r) = r .number
+
+abbrev pub placeOr : Option Refusal → ℕ → ℕ
+placeOr none value = value
+placeOr (some r) value = r .place
+
+abbrev pub kindNumber : Kind → ℕ
+kindNumber S900 = 900
+kindNumber S1000 = 1000
+
+abbrev pub densityNumber : Density → ℕ
+densityNumber Low = 0
+densityNumber High = 1
+
+abbrev pub refusedBy : Refusal → Answer
+refusedBy r = record { refusal = some r; value = 0; free = 0; kind = 0; density = 0; name = []; type = 0; end = false }
+
+abbrev pub refused : ℕ → ℕ → Answer
+refused number place = refusedBy (refusalAt number place)
+
+abbrev pub accepted : Kind → Density → ℕ → ℕ → Answer
+accepted k d files free =
+    record { refusal = none; value = files; free = free; kind = kindNumber k; density = densityNumber d; name = []; type = 0; end = false }
+
+abbrev pub gives : ℕ → List ℕ → ℕ → Bool → Answer
+gives value name type end = record { refusal = none; value = value; free = 0; kind = 0; density = 0; name = name; type = type; end = end }
+
+-- list's: name, type, length
+abbrev pub entry : List ℕ → ℕ → ℕ → Answer
+entry name type length = gives length name type false
+
+-- find's and put's slot, or a count
+abbrev pub valued : ℕ → Answer
+valued n = gives n [] 0 false
+
+-- page's: how many bytes, and whether the file's end is reached
+abbrev pub paged : ℕ → Bool → Answer
+paged n end = gives n [] 0 end
+
+-- remove's
+abbrev pub done : Answer
+done = valued 0
 
 -- What a call comes to: its answer, the lent output afterwards, and the next state, be it the record's files or an image.
 pub record Outcome (S : Type 0) : Type 0 where
@@ -70,19 +122,22 @@ answered s a = record { answer = a; output = []; state = s }
 
 -- ---- a call on a name: refused by number and place, or granted a slot
 
+abbrev pub refuse : ℕ → ℕ → Judged
+refuse number place = Refuse (refusalAt number place)
+
 abbrev pub refuseIf : Bool → ℕ → Judged → Judged
-refuseIf true n next = Refuse n 0
+refuseIf true n next = refuse n 0
 refuseIf false n next = next
 
 -- refused at the slot found
 abbrev pub refuseAt : ℕ → Lowest → Judged → Judged
-refuseAt n (At s) next = Refuse n s
+refuseAt n (At s) next = refuse n s
 refuseAt n Nowhere next = next
 
 -- refused where no slot is found
 abbrev pub orRefuse : ℕ → Lowest → (ℕ → Judged) → Judged
 orRefuse n (At s) next = next s
-orRefuse n Nowhere next = Refuse n 0
+orRefuse n Nowhere next = refuse n 0
 
 abbrev pub named : List ℕ → Option File → Bool
 named name none = false
@@ -140,15 +195,15 @@ module _ (l : Layout) (files : Files) where
 -- ---- what a judged call comes to
 
 abbrev pub finding : {S : Type 0} → S → Judged → Outcome S
-finding state (Refuse n p) = answered state (refused n p)
-finding state (Grant s) = answered state (slotIs s)
+finding state (Refuse r) = answered state (refusedBy r)
+finding state (Grant s) = answered state (valued s)
 
 abbrev pub putting : {S : Type 0} → S → (ℕ → S) → Judged → Outcome S
-putting state after (Refuse n p) = answered state (refused n p)
-putting state after (Grant s) = answered (after s) (slotIs s)
+putting state after (Refuse r) = answered state (refusedBy r)
+putting state after (Grant s) = answered (after s) (valued s)
 
 abbrev pub removing : {S : Type 0} → S → (ℕ → S) → Judged → Outcome S
-removing state after (Refuse n p) = answered state (refused n p)
+removing state after (Refuse r) = answered state (refusedBy r)
 removing state after (Grant s) = answered (after s) done
 
 -- list: 10

@@ -18,7 +18,7 @@ use Rattle.record.specs.Update.{remove-rules, remove-files, put-rules, p
 
 -- The image that a judged call leaves.
 abbrev pub after : List ℕ → (ℕ → List ℕ) → Judged → List ℕ
-after img change (Refuse n p) = img
+after img change (Refuse r) = img
 after img change (Grant s) = change s
 
 unfoldable pub imageAfter : Layout → List ℕ → Call → List ℕ
@@ -41,7 +41,7 @@ stepImage shape img c =
 
 module _ (files : Files) where
   finding-keeps : (j : Judged) → finding files j .state ≡ files
-  finding-keeps (Refuse n p) = refl
+  finding-keeps (Refuse r) = refl
   finding-keeps (Grant s) = refl
 
   listing-keeps : (f : Option File) → listing files f .state ≡ files
@@ -82,7 +82,7 @@ module _ (shape : Shape) (right : LayoutRight (shape .layout)) (img : List ℕ) 
 
   put-step : (name : List ℕ) (type : ℕ) (content : List ℕ) (j : Judged) → judgePut l (filesIn l img) name type content ≡ j → Step shape img (put name type content)
   unfolding imageAfter stepFiles
-  put-step name type content (Refuse n p) e = record { rules = rw e rules; files = λ t. rw e refl }
+  put-step name type content (Refuse r) e = record { rules = rw e rules; files = λ t. rw e refl }
   put-step name type content (Grant s) e = record {
     rules = rw e (put-rules l right img rules name type content s e);
     files = λ t. rw e (put-files l right img rules name type content s e t);
@@ -90,7 +90,7 @@ module _ (shape : Shape) (right : LayoutRight (shape .layout)) (img : List ℕ) 
 
   remove-step : (name : List ℕ) (j : Judged) → judgeName l (filesIn l img) name ≡ j → Step shape img (remove name)
   unfolding imageAfter stepFiles
-  remove-step name (Refuse n p) e = record { rules = rw e rules; files = λ t. rw e refl }
+  remove-step name (Refuse r) e = record { rules = rw e rules; files = λ t. rw e refl }
   remove-step name (Grant s) e = record {
     rules = rw e (remove-rules l right img rules name s e);
     files = λ t. rw e (remove-files l right img rules name s e t);

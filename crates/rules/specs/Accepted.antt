@@ -138,7 +138,7 @@ as-is k j d c b f n e = go (rules (layoutOf k d) (viewOf (layoutOf k d) b)) refl
         → orFault r (Accepted k d (usedCount (layoutOf k d) (viewOf (layoutOf k d) b)) (freeCount (layoutOf k d) (mapAt b))) ≡ Accepted j c f n
         → (k ≡ j) × (d ≡ c) × (rules (layoutOf k d) (viewOf (layoutOf k d) b) ≡ Pass) × (usedCount (layoutOf k d) (viewOf (layoutOf k d) b) ≡ f) × (freeCount (layoutOf k d) (mapAt b) ≡ n)
     go Pass p q = (cc, cc, p, cc, cc)
-    go (Fail x y) p q = absurd (let z : _≡_ {A = ℕ} 0 1 = cc in omega arith)
+    go (Fail r) p q = absurd (let z : _≡_ {A = ℕ} 0 1 = cc in omega arith)
 
 pub accepted-rules : (k : Kind) (d : Density) (f n : ℕ) (img : List ℕ) → checkOf img ≡ Accepted k d f n → DiskRules (layoutOf k d) img
 unfolding checkHead

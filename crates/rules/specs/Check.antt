@@ -19,16 +19,18 @@ use Rattle.map.specs.Map.{mapAt, freeCount}
 use Rattle.view.specs.Disk.{View, used}
 use Rattle.view.specs.declared.Ruled.{Ruled}
 use Rattle.view.specs.declared.Ruled.the-variants.{Pass, Fail}
+use Rattle.laws.specs.declared.Refusal.{Refusal}
+use Rattle.laws.specs.Refusals.{refusalAt}
 use Rattle.view.specs.Rules.{rules}
 use Rattle.image.specs.Image.{entryAt, identityAt, viewOf}
-use Rattle.record.specs.Record.{shapeOf, Call, check, list, find, page, put, remove, Answer, accepted, refused, Outcome}
+use Rattle.record.specs.Record.{shapeOf, Call, check, list, find, page, put, remove, Answer, accepted, refusedBy, Outcome}
 use Rattle.record.specs.Step.{stepImage}
 use Rattle.rules.specs.declared.Checked.{Checked}
 use Rattle.rules.specs.declared.Checked.the-variants.{Accepted, Refused}
 
 -- what comes next of a value, or the refusal where there is none
 abbrev pub orRefused : {A : Type 0} → Option A → ℕ → (A → Checked) → Checked
-orRefused none number next = Refused number 0
+orRefused none number next = Refused (refusalAt number 0)
 orRefused (some x) number next = next x
 
 -- 1: the image's length is one of the two.
@@ -52,7 +54,7 @@ usedCount l v = count (λ s. used (v .entry s)) 0 (l .slots)
 -- 3 to 9: the disk rules of that kind and density.
 abbrev pub orFault : Ruled → Checked → Checked
 orFault Pass next = next
-orFault (Fail number place) next = Refused number place
+orFault (Fail r) next = Refused r
 
 unfoldable pub checkAs : Kind → Density → (ℕ → ℕ) → Checked
 unfolding rules usedCount freeCount entryAt
@@ -72,12 +74,16 @@ checkOf img = checkHead (length img) (bytes img)
 -- refused as a wrong length is.
 unfoldable pub checkStart : List ℕ → ℕ → Checked
 unfolding checkHead
-checkStart head size = pick (ltb (length head) (min size 5120)) (Refused 1 0) (checkHead size (bytes head))
+checkStart head size = pick (ltb (length head) (min size 5120)) (Refused (refusalAt 1 0)) (checkHead size (bytes head))
 
 -- The check's number, place and values.
 abbrev pub answerOf : Checked → Answer
 answerOf (Accepted k d files free) = accepted k d files free
-answerOf (Refused number place) = refused number place
+answerOf (Refused r) = refusedBy r
+
+abbrev pub refusalOf : Checked → Refusal
+refusalOf (Accepted k d files free) = refusalAt 0 0
+refusalOf (Refused r) = r
 
 -- ---- every public call
 
@@ -91,7 +97,7 @@ lent (put name type content) = []
 lent (remove name) = []
 
 abbrev pub callBy : Checked → List ℕ → Call → Outcome (List ℕ)
-callBy (Refused number place) img c = record { answer = refused number place; output = lent c; state = img }
+callBy (Refused r) img c = record { answer = refusedBy r; output = lent c; state = img }
 callBy (Accepted k d files free) img c = stepImage (shapeOf k d) img c
 
 -- A call on any bytes: a refused image answers the check's refusal and keeps image and output; on an accepted one the answer and the

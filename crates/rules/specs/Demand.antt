@@ -28,7 +28,7 @@ use Rattle.map.specs.Map.{mapAt, freeCount}
 use Rattle.view.specs.Disk.{File}
 use Rattle.view.specs.Counting.{takes}
 use Rattle.image.specs.Image.{filesIn, DiskRules}
-use Rattle.record.specs.Record.{shapeOf, Files, Call, check, page, put, remove, Outcome, accepted, refused, refuseIf, named, isEmpty, slotOf, emptySlot, judgePut, putting, stepFiles}
+use Rattle.record.specs.Record.{shapeOf, Files, Call, check, page, put, remove, Answer, numberIn, Outcome, refused, refuseIf, named, isEmpty, slotOf, emptySlot, judgePut, putting, stepFiles}
 use Rattle.record.specs.declared.Judged.{Judged}
 use Rattle.record.specs.declared.Judged.the-variants.{Refuse, Grant}
 use Rattle.record.specs.Order.{roomFor, order-room}
@@ -104,7 +104,7 @@ unfolding callOf stepFiles
 check-call img = go (checkOf img) refl
   where
     go : (w : Checked) → checkOf img ≡ w → callOf img check .answer ≡ answerOf (checkOf img)
-    go (Refused number place) e = rw e refl
+    go (Refused r) e = rw e refl
     go (Accepted k d f n) e =
         let r = accepted-rules k d f n img e in
         let w = accepted-counts k d f n img e in
@@ -135,8 +135,8 @@ others k d f n img e c t file there spared =
 -- a put that is judged only by its room and its length answers 15 exactly for lack of room
 only-room : (img : List ℕ) (t u : Bool) (s : ℕ) → (putting img (λ s. img) (refuseIf t 15 (refuseIf u 16 (Grant s))) .answer ≡ refused 15 0) ↔ (t ≡ true)
 only-room img true u s = (λ e. refl, λ e. refl)
-only-room img false true s = (λ e. let z : _≡_ {A = ℕ} 16 15 = cc in absurd (omega arith), λ e. absurd (true≢false (sym e)))
-only-room img false false s = (λ e. let z : _≡_ {A = ℕ} 0 1 = cc in absurd (omega arith), λ e. absurd (true≢false (sym e)))
+only-room img false true s = (λ e. let z : _≡_ {A = ℕ} 16 15 = ap (λ (x : Answer). numberIn (x .refusal)) e in absurd (omega arith), λ e. absurd (true≢false (sym e)))
+only-room img false false s = (λ e. let z : _≡_ {A = ℕ} 0 15 = ap (λ (x : Answer). numberIn (x .refusal)) e in absurd (omega arith), λ e. absurd (true≢false (sym e)))
 
 module _ (k : Kind) (d : Density) (f n : ℕ) (img : List ℕ) (yes : checkOf img ≡ Accepted k d f n) (name : List ℕ) (type : ℕ) (content : List ℕ) where
   abbrev l : Layout
@@ -170,7 +170,7 @@ module _ (k : Kind) (d : Density) (f n : ℕ) (img : List ℕ) (yes : checkOf im
 
   put-answer : (j : Judged) → judgePut l files name type content ≡ j → callOf img (put name type content) .answer ≡ putting img (λ s. img) j .answer
   unfolding stepImage stepFiles
-  put-answer (Refuse number place) e = ap (λ (x : Outcome (List ℕ)). x .answer) (call-is k d img (put name type content) (accepted-rules k d f n img yes)) ∙ rw e refl
+  put-answer (Refuse r) e = ap (λ (x : Outcome (List ℕ)). x .answer) (call-is k d img (put name type content) (accepted-rules k d f n img yes)) ∙ rw e refl
   put-answer (Grant s) e = ap (λ (x : Outcome (List ℕ)). x .answer) (call-is k d img (put name type content) (accepted-rules k d f n img yes)) ∙ rw e refl
 
   -- Where type and name are legal, the name is new, content is given and a slot is empty: a put is refused for room ↔ its blocks outnumber

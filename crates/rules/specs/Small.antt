@@ -26,11 +26,12 @@ use Rattle.map.specs.declared.Walk.the-variants.{Whole, Bad, Cut}
 use Rattle.map.specs.Map.{faultOf}
 use Rattle.view.specs.declared.Ruled.{Ruled}
 use Rattle.view.specs.declared.Ruled.the-variants.{Pass, Fail}
+use Rattle.laws.specs.declared.Refusal.{Refusal}
 use Rattle.view.specs.Disk.{View, File}
 use Rattle.view.specs.Counting.{takes}
 use Rattle.view.specs.Rules.{orFail, badSystem, malformed, repeated, walkOf, broken, sharing, stray, rules}
 use Rattle.image.specs.Image.{viewOf, filesIn, DiskRules}
-use Rattle.record.specs.Record.{shapeOf, Files, Call, check, list, find, page, put, remove, Answer, accepted, entry, slotIs, paged, done, refused, refuseIf, refuseAt, orRefuse, replaced, slotOf, emptySlot, isEmpty, named, fileCount, free, judgeName, judgePut, fileAt, listing, finding, putting, removing, paging, stepFiles}
+use Rattle.record.specs.Record.{shapeOf, Files, Call, check, list, find, page, put, remove, Answer, numberIn, placeOr, refusedBy, valued, refuseIf, refuseAt, orRefuse, replaced, slotOf, emptySlot, isEmpty, named, fileCount, free, judgeName, judgePut, fileAt, listing, finding, putting, removing, paging, stepFiles}
 use Rattle.record.specs.declared.Judged.{Judged}
 use Rattle.record.specs.declared.Judged.the-variants.{Refuse, Grant}
 use Rattle.record.specs.Update.{area-split}
@@ -44,14 +45,12 @@ use Rattle.rules.specs.Accepted.{accepted-rules}
 abbrev pub Small : ℕ → Type 0
 Small n = n < 16777216
 
+abbrev SmallRefusal : Refusal → Type 0
+SmallRefusal r = Small (r .number) × Small (r .place)
+
 -- They hold each number of an answer.
 abbrev pub AllSmall : Answer → Type 0
-AllSmall (accepted kind density files free) = Small files × Small free
-AllSmall (entry name letter length) = Small length
-AllSmall (slotIs slot) = Small slot
-AllSmall (paged count end) = Small count
-AllSmall done = Unit {0}
-AllSmall (refused number place) = Small number × Small place
+AllSmall a = Small (numberIn (a .refusal)) × Small (placeOr (a .refusal) (a .value)) × Small (a .free)
 
 lowest-small : (f : ℕ → Bool) (i n p : ℕ) → i + n ≤ 16777216 → lowest f i n ≡ At p → Small p
 lowest-small f i n p h e = let w = at→ f i n p e in let q : p < i + n = w .1 in omega arith
@@ -60,7 +59,7 @@ lowest-small f i n p h e = let w = at→ f i n p e in let q : p < i + n = w .1 i
 
 abbrev SmallFault : Ruled → Type 0
 SmallFault Pass = Unit {0}
-SmallFault (Fail number place) = Small number × Small place
+SmallFault (Fail r) = SmallRefusal r
 
 or-small : (number : ℕ → ℕ) (w : Lowest) (next : Ruled) → ((p : ℕ) → Small (number p)) → ((p : ℕ) → w ≡ At p → Small p) → SmallFault next → SmallFault (orFail number w next)
 or-small number (At p) next h k r = (h p, k p refl)
@@ -88,34 +87,34 @@ rules-small l right v =
     (or-small (λ s. 8) (lowest (sharing l v) 0 (l .slots)) _ (λ p. omega arith) (λ p. lowest-small (sharing l v) 0 (l .slots) p (omega arith))
     (or-small (λ b. 9) (lowest (stray l v) (l .first) (l .blocks - l .first)) Pass (λ p. omega arith) (λ p. lowest-small (stray l v) (l .first) (l .blocks - l .first) p (omega arith)) tt)))))
 
-abbrev SmallRefusal : Checked → Type 0
-SmallRefusal (Accepted k d files free) = Unit {0}
-SmallRefusal (Refused number place) = Small number × Small place
+abbrev SmallCheck : Checked → Type 0
+SmallCheck (Accepted k d files free) = Unit {0}
+SmallCheck (Refused r) = SmallRefusal r
 
-fault-small : (r : Ruled) (k : Kind) (d : Density) (f n : ℕ) → SmallFault r → SmallRefusal (orFault r (Accepted k d f n))
+fault-small : (r : Ruled) (k : Kind) (d : Density) (f n : ℕ) → SmallFault r → SmallCheck (orFault r (Accepted k d f n))
 fault-small Pass k d f n h = tt
-fault-small (Fail number place) k d f n h = h
+fault-small (Fail r) k d f n h = h
 
-as-small : (k : Kind) (d : Density) (b : ℕ → ℕ) → SmallRefusal (checkAs k d b)
+as-small : (k : Kind) (d : Density) (b : ℕ → ℕ) → SmallCheck (checkAs k d b)
 unfolding checkAs
 as-small k d b = let l = layoutOf k d in fault-small (rules l (viewOf l b)) k d _ _ (rules-small l (layout-right k d) (viewOf l b))
 
-kind-small : (k : Option Kind) (d : Density) (b : ℕ → ℕ) → SmallRefusal (orRefused k 2 (λ k. checkAs k d b))
+kind-small : (k : Option Kind) (d : Density) (b : ℕ → ℕ) → SmallCheck (orRefused k 2 (λ k. checkAs k d b))
 kind-small none d b = (omega arith, omega arith)
 kind-small (some k) d b = as-small k d b
 
-density-small : (d : Option Density) (b : ℕ → ℕ) → SmallRefusal (orRefused d 1 (λ d. orRefused (kindOf d b) 2 (λ k. checkAs k d b)))
+density-small : (d : Option Density) (b : ℕ → ℕ) → SmallCheck (orRefused d 1 (λ d. orRefused (kindOf d b) 2 (λ k. checkAs k d b)))
 density-small none b = (omega arith, omega arith)
 density-small (some d) b = kind-small (kindOf d b) d b
 
-check-small : (img : List ℕ) → SmallRefusal (checkOf img)
+check-small : (img : List ℕ) → SmallCheck (checkOf img)
 unfolding checkHead
 check-small img = density-small (densityOf (length img)) (bytes img)
 
 -- ---- a call's judgement
 
 abbrev SmallJudged : Judged → Type 0
-SmallJudged (Refuse number place) = Small number × Small place
+SmallJudged (Refuse r) = SmallRefusal r
 SmallJudged (Grant slot) = Small slot
 
 if-small : (t : Bool) (n : ℕ) (next : Judged) → Small n → SmallJudged next → SmallJudged (refuseIf t n next)
@@ -176,30 +175,36 @@ module _ (l : Layout) (right : LayoutRight l) (img : List ℕ) (rules : DiskRule
 
 -- ---- what a call answers
 
+refused-small : (r : Refusal) → SmallRefusal r → AllSmall (refusedBy r)
+refused-small r h = (h .0, h .1, omega arith)
+
+valued-small : (n : ℕ) → Small n → AllSmall (valued n)
+valued-small n h = (omega arith, h, omega arith)
+
 module _ (files : Files) where
   listing-small : (w : Option File) → ((f : File) → w ≡ some f → Small (length (f .content))) → AllSmall (listing files w .answer)
-  listing-small none h = (omega arith, omega arith)
-  listing-small (some f) h = h f refl
+  listing-small none h = (omega arith, omega arith, omega arith)
+  listing-small (some f) h = valued-small _ (h f refl)
 
   finding-small : (j : Judged) → SmallJudged j → AllSmall (finding files j .answer)
-  finding-small (Refuse n p) h = h
-  finding-small (Grant s) h = h
+  finding-small (Refuse r) h = refused-small r h
+  finding-small (Grant s) h = valued-small s h
 
   putting-small : (after : ℕ → Files) (j : Judged) → SmallJudged j → AllSmall (putting files after j .answer)
-  putting-small after (Refuse n p) h = h
-  putting-small after (Grant s) h = h
+  putting-small after (Refuse r) h = refused-small r h
+  putting-small after (Grant s) h = valued-small s h
 
   removing-small : (after : ℕ → Files) (j : Judged) → SmallJudged j → AllSmall (removing files after j .answer)
-  removing-small after (Refuse n p) h = h
-  removing-small after (Grant s) h = tt
+  removing-small after (Refuse r) h = refused-small r h
+  removing-small after (Grant s) h = valued-small 0 (omega arith)
 
   paging-small : (w : Option File) (offset : ℕ) (out : List ℕ) → ((f : File) → w ≡ some f → Small (length (f .content))) → AllSmall (paging files w offset out .answer)
-  paging-small none offset out h = (omega arith, omega arith)
+  paging-small none offset out h = (omega arith, omega arith, omega arith)
   paging-small (some f) offset out h = go (ltb (length (f .content)) offset) refl
     where
       go : (t : Bool) → ltb (length (f .content)) offset ≡ t → AllSmall (paging files (some f) offset out .answer)
-      go true e = rw e (omega arith, omega arith)
-      go false e = rw e (let k = h f refl in omega arith)
+      go true e = rw e (omega arith, omega arith, omega arith)
+      go false e = rw e (valued-small _ (let k = h f refl in omega arith))
 
 step-small : (k : Kind) (d : Density) (img : List ℕ) → DiskRules (layoutOf k d) img → (c : Call) → AllSmall (stepFiles (shapeOf k d) (filesIn (layoutOf k d) img) c .answer)
 unfolding stepFiles fileCount free
@@ -209,7 +214,7 @@ step-small k d img rules check =
     let most = right .blocks-most in
     let slots = slots-small l right in
     let n = count-split (λ s. not (isEmpty (filesIn l img s))) 0 (l .slots) in
-    (omega arith, omega arith)
+    (omega arith, omega arith, omega arith)
 step-small k d img rules (list s) =
     let l = layoutOf k d in listing-small (filesIn l img) (fileAt l (filesIn l img) s) (held-small l (layout-right k d) img rules s)
 step-small k d img rules (find name) =
@@ -231,6 +236,6 @@ pub call-small : (img : List ℕ) (c : Call) → AllSmall (callOf img c .answer)
 unfolding callOf stepImage
 call-small img c = go (checkOf img) refl (check-small img)
   where
-    go : (w : Checked) → checkOf img ≡ w → SmallRefusal w → AllSmall (callBy w img c .answer)
+    go : (w : Checked) → checkOf img ≡ w → SmallCheck w → AllSmall (callBy w img c .answer)
     go (Accepted k d f n) e h = step-small k d img (accepted-rules k d f n img e) c
-    go (Refused number place) e h = h
+    go (Refused r) e h = refused-small r h

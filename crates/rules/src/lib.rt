@@ -1,7 +1,8 @@
 // The check's answer; what it means is in specs/.
+ghost use mathlib.Core.Path.{_≡_};
+ghost use Rattle.rules.specs.Check.{refusalOf};
 
-// An accepted image's kind and density, and its counts of files and free blocks; or a refusal's number and place
-// (document 01, "The numbers given back").
+// An accepted image's kind and density, and its counts of files and free blocks; or a refusal.
 pub enum Checked {
     Accepted {
         kind: layout::Kind,
@@ -9,8 +10,23 @@ pub enum Checked {
         files: usize,
         free: usize,
     },
-    Refused {
-        number: usize,
-        place: usize,
-    },
+    Refused(laws::Refusal),
+}
+
+// The check's refusal, 0 at 0 for none.
+pub fn refusal_of(checked: Checked) -> laws::Refusal
+    ensures { λ r. ⌜ r ≡ refusalOf checked ⌝ }
+{
+    match checked {
+        Checked::Accepted {
+            kind: _,
+            density: _,
+            files: _,
+            free: _,
+        } => laws::Refusal {
+            number: 0,
+            place: 0,
+        },
+        Checked::Refused(refusal) => refusal,
+    }
 }

@@ -12,15 +12,16 @@ use lib.Seq.{sets, sets-eq, take-at, drop-at, getD-drop}
 use lib.Dec.{ltb}
 use borrow.Author.Tests.{ltb-false}
 use Rattle.laws.specs.Truth.{pick}
+use Rattle.laws.specs.Refusals.{refused-done, Filled, filled, unless}
 use Rattle.laws.specs.Scan.{nowhere→, →nowhere}
 use Rattle.laws.specs.Splice.{splice, part, part-splice}
 use Rattle.laws.specs.declared.Lowest.{Lowest}
 use Rattle.laws.specs.declared.Lowest.the-variants.{At, Nowhere}
-use Rattle.headers.specs.declared.Counted.the-variants.{Done, Refused}
+use Rattle.laws.specs.declared.Counted.the-variants.{Done}
 use Rattle.words.specs.Words.{holds}
 use Rattle.samples.specs.declared.Sampler.{Sampler}
 use Rattle.samples.specs.declared.Sampler.the-variants.{S900, S1000}
-use Rattle.samples.specs.Samples.{headerSize, dataSize, isWhole, countIn, fileSize, packed, headerOf, wordsOf, fileFault, headerFault, isOutside, rangeFault, roomFault, Filled, filled, unless, unpackOf, packOf}
+use Rattle.samples.specs.Samples.{headerSize, dataSize, isWhole, countIn, fileSize, packed, headerOf, wordsOf, fileFault, headerFault, isOutside, rangeFault, roomFault, unpackOf, packOf}
 use Rattle.samples.specs.Rules.{HeaderRules, SampleRules, file-accepted, header-accepted}
 use Rattle.samples.specs.Steps.{enough-room}
 use Rattle.samples.specs.Back.{Held, Bytes, length-packed, unpacked-packed, length-unpacked, held-unpacked, packed-unpacked}
@@ -31,13 +32,10 @@ Words words = (i : ℕ) → holds 65536 (getD words i (pos 0)) ≡ true
 
 -- ---- a call that is done
 
-refused-not-done : (number place count : ℕ) → Refused number place ≡ Done count → ⊥
-refused-not-done number place count e = let z : _≡_ {A = ℕ} 0 1 = cc in omega arith
-
 -- no refusal was given
 unless-done : {A : Type 0} (number : ℕ) (f : Lowest) (output : List A) (rest : Filled A) (count : ℕ) → unless number f output rest .answer ≡ Done count
     → (f ≡ Nowhere) × (unless number f output rest ≡ rest) × (rest .answer ≡ Done count)
-unless-done number (At place) output rest count e = absurd (refused-not-done number place count e)
+unless-done number (At place) output rest count e = absurd (refused-done e)
 unless-done number Nowhere output rest count e = (refl, refl, e)
 
 room-enough : (room due : ℕ) → roomFault room due ≡ Nowhere → due ≤ room

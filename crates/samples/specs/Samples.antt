@@ -19,8 +19,8 @@ use Rattle.headers.specs.Tables as tables
 use Rattle.headers.specs.Tables.{rowsOf}
 use Rattle.headers.specs.declared.Table.{Table}
 use Rattle.headers.specs.declared.Table.the-variants.{Sample900, Sample1000}
-use Rattle.headers.specs.declared.Counted.{Counted}
-use Rattle.headers.specs.declared.Counted.the-variants.{Done, Refused}
+use Rattle.laws.specs.declared.Counted.the-variants.{Done}
+use Rattle.laws.specs.Refusals.{Filled, filled, unless}
 use Rattle.words.specs.Parts.{parts}
 use Rattle.words.specs.Words.{wordOf, holds, bitsAt, packed900, unpacked900}
 use Rattle.samples.specs.declared.Sampler.{Sampler}
@@ -122,19 +122,6 @@ abbrev pub roomFault : ℕ → ℕ → Lowest
 roomFault room due = pick (ltb room due) (At 0) Nowhere
 
 -- ---- the calls
-
--- What a call answers, and what the lent output then holds.
-pub record Filled (A : Type 0) : Type 0 where
-  pub answer : Counted
-  pub output : List A
-
-abbrev pub filled : {A : Type 0} → Counted → List A → Filled A
-filled answer output = record { answer = answer; output = output }
-
--- A refusal keeps the output; without it the call goes on.
-abbrev pub unless : {A : Type 0} → ℕ → Lowest → List A → Filled A → Filled A
-unless number (At place) output rest = filled (Refused number place) output
-unless number Nowhere output rest = rest
 
 -- Unpacking: refusals 18 and 21; else the words, and what lies past them is kept.
 unfoldable pub unpackOf : Sampler → List ℕ → List ℤ → Filled ℤ

@@ -12,6 +12,7 @@ use lib.ListN.{length, take, drop, length-drop}
 use lib.Seq.{sets, take-all, length-take-le}
 use borrow.Author.Tests.{lt-ltb, le-ltb, eq-eqb, ne-eqb}
 use Rattle.laws.specs.Truth.{both}
+use Rattle.laws.specs.Refusals.{refusalAt, Filled, filled, unless}
 use Rattle.laws.specs.Scan.{all, all-end, all-stop, all-on, all→, →nowhere}
 use Rattle.laws.specs.Splice.{splice, part, splice-append}
 use Rattle.laws.specs.Reader.{bytes}
@@ -21,10 +22,10 @@ use Rattle.blocks.specs.Numbers.{number}
 use Rattle.rows.specs.Rows.{rowsFault}
 use Rattle.headers.specs.Tables.{rowsOf}
 use Rattle.headers.specs.declared.Table.{Table}
-use Rattle.headers.specs.declared.Counted.the-variants.{Done, Refused}
+use Rattle.laws.specs.declared.Counted.the-variants.{Done, Refused}
 use Rattle.samples.specs.declared.Sampler.{Sampler}
 use Rattle.samples.specs.declared.Sampler.the-variants.{S900, S1000}
-use Rattle.samples.specs.Samples.{headerSize, countOffset, tableOf, dataSize, isWhole, countIn, fileSize, packed, unpacked, headerOf, wordsOf, headFault, fileFault, headerFault, isShort, isOutside, rangeFault, roomFault, Filled, filled, unless, unpackOf, packOf}
+use Rattle.samples.specs.Samples.{headerSize, countOffset, tableOf, dataSize, isWhole, countIn, fileSize, packed, unpacked, headerOf, wordsOf, headFault, fileFault, headerFault, isShort, isOutside, rangeFault, roomFault, unpackOf, packOf}
 use Rattle.samples.specs.Rules.{HeaderRules, file-accepted, header-accepted}
 
 -- the number of words lies inside the header
@@ -111,7 +112,7 @@ module _ {sampler : Sampler} (words : List ℤ) (e : sampler ≡ S900) {short : 
 -- ---- refusals in order
 
 module _ {A : Type 0} (no : ℕ) (output : List A) (rest : Filled A) {f : Lowest} where
-  stopped : {place : ℕ} → f ≡ At place → filled (Refused no place) output ≡ unless no f output rest
+  stopped : {place : ℕ} → f ≡ At place → filled (Refused (refusalAt no place)) output ≡ unless no f output rest
   stopped e = rw e refl
 
   passed : f ≡ Nowhere → rest ≡ unless no f output rest
@@ -130,7 +131,7 @@ rest-all l at = take-all (length l - at) (drop at l) (omega (arith, length-drop 
 -- ---- unpacking
 
 module _ (sampler : Sampler) (file : List ℕ) (words : List ℤ) where
-  pub unpack-refused : {f : Lowest} {place : ℕ} → f ≡ fileFault sampler file → f ≡ At place → filled (Refused 18 place) words ≡ unpackOf sampler file words
+  pub unpack-refused : {f : Lowest} {place : ℕ} → f ≡ fileFault sampler file → f ≡ At place → filled (Refused (refusalAt 18 place)) words ≡ unpackOf sampler file words
   unfolding unpackOf
   unpack-refused e h = stopped 18 words _ (sym e ∙ h)
 
@@ -153,7 +154,7 @@ module _ (sampler : Sampler) (file : List ℕ) (words : List ℤ) {size count : 
       let e : length file ≡ size + dataSize sampler count = rw (count-is, o .size-is) (file-accepted sampler file .0 (o .fault) .long) in
       rw (rest-all file size, length-drop size file) (omega arith)
 
-  pub unpack-short : length words < count → filled (Refused 21 0) words ≡ unpackOf sampler file words
+  pub unpack-short : length words < count → filled (Refused (refusalAt 21 0)) words ≡ unpackOf sampler file words
   unfolding unpackOf
   unpack-short k = stopped 21 words _ (short-room (length words) _ (rw count-is at k)) ∙ passed 18 words _ (o .fault)
 
@@ -167,11 +168,11 @@ module _ (sampler : Sampler) (file : List ℕ) (words : List ℤ) {size count : 
 -- ---- packing
 
 module _ (sampler : Sampler) (header : List ℕ) (words : List ℤ) (out : List ℕ) {f : Lowest} (e : f ≡ headerFault sampler header (length words)) where
-  pub pack-refused : {place : ℕ} → f ≡ At place → filled (Refused 18 place) out ≡ packOf sampler header words out
+  pub pack-refused : {place : ℕ} → f ≡ At place → filled (Refused (refusalAt 18 place)) out ≡ packOf sampler header words out
   unfolding packOf
   pack-refused h = stopped 18 out _ (sym e ∙ h)
 
-  pub pack-outside : {g : Lowest} {place : ℕ} → f ≡ Nowhere → g ≡ rangeFault sampler words → g ≡ At place → filled (Refused 19 place) out ≡ packOf sampler header words out
+  pub pack-outside : {g : Lowest} {place : ℕ} → f ≡ Nowhere → g ≡ rangeFault sampler words → g ≡ At place → filled (Refused (refusalAt 19 place)) out ≡ packOf sampler header words out
   unfolding packOf
   pack-outside h r k = stopped 19 out _ (sym r ∙ k) ∙ passed 18 out _ (sym e ∙ h)
 
@@ -196,7 +197,7 @@ module _ (sampler : Sampler) (header : List ℕ) (words : List ℤ) (out : List 
   due : size + rest ≡ fileSize sampler (length words)
   due = rw (r .size-is, ready-rest) refl
 
-  pub pack-short : length out < size + rest → filled (Refused 21 0) out ≡ packOf sampler header words out
+  pub pack-short : length out < size + rest → filled (Refused (refusalAt 21 0)) out ≡ packOf sampler header words out
   unfolding packOf
   pack-short h = stopped 21 out _ (short-room (length out) _ (rw due at h)) ∙ passed 19 out _ (r .range) ∙ passed 18 out _ (r .fault)
 

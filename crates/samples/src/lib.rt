@@ -12,9 +12,10 @@ ghost use Rattle.laws.specs.Reader.{bytes, tab};
 ghost use Rattle.blocks.specs.Numbers.{Number};
 ghost use Rattle.words.specs.Parts.{parts};
 ghost use Rattle.words.specs.Words.{bitsOf, wordOf, firstBits, secondBits, pairAt, upperBits, packed900, unpacked900};
-ghost use Rattle.samples.specs.Samples.{headerSize, countOffset, tableOf, dataSize, isWhole, packed1000, unpacked1000, packed, unpacked, headFault, fileFault, headerFault, isShort, isOutside, rangeFault, filled, unpackOf, packOf};
-use headers::Counted;
+ghost use Rattle.laws.specs.Refusals.{filled};
+ghost use Rattle.samples.specs.Samples.{headerSize, countOffset, tableOf, dataSize, isWhole, packed1000, unpacked1000, packed, unpacked, headFault, fileFault, headerFault, isShort, isOutside, rangeFault, unpackOf, packOf};
 use headers::Table;
+use laws::Counted;
 use laws::Lowest;
 
 pub enum Sampler {
@@ -326,15 +327,15 @@ pub fn unpack(sampler: Sampler, file: &[u8], words: &mut [i16]) -> Counted
 {
     let fault = file_fault(sampler, file);
     if let Lowest::At(place) = fault {
-        return Counted::Refused { number: 18, place };
+        return Counted::Refused(laws::Refusal { number: 18, place });
     }
     let size = header_size(sampler);
     let count = count_in(sampler, &file[0..size]);
     if words.len() < count {
-        return Counted::Refused {
+        return Counted::Refused(laws::Refusal {
             number: 21,
             place: 0,
-        };
+        });
     }
     fill(sampler, &file[size..], count, words);
     Counted::Done(count)
@@ -346,19 +347,19 @@ pub fn pack(sampler: Sampler, header: &[u8], words: &[i16], out: &mut [u8]) -> C
 {
     let fault = header_fault(sampler, header, words.len());
     if let Lowest::At(place) = fault {
-        return Counted::Refused { number: 18, place };
+        return Counted::Refused(laws::Refusal { number: 18, place });
     }
     let outside = range_fault(sampler, words);
     if let Lowest::At(place) = outside {
-        return Counted::Refused { number: 19, place };
+        return Counted::Refused(laws::Refusal { number: 19, place });
     }
     let size = header_size(sampler);
     let due = size + data_size(sampler, count_in(sampler, header));
     if out.len() < due {
-        return Counted::Refused {
+        return Counted::Refused(laws::Refusal {
             number: 21,
             place: 0,
-        };
+        });
     }
     blocks::copy_part(header, 0, out, 0, size);
     store(sampler, words, out, size);

@@ -2,19 +2,20 @@
 -- By the tests in the definition's order. Assumes nothing.
 use mathlib.Core.Path.{_≡_, refl, sym, ap, _∙_}
 use mathlib.Core.Bool.{Bool, true, false, true≢false}
-use mathlib.Core.List.{List}
+use mathlib.Core.List.{List, []}
 use mathlib.Core.Option.{Option, none, some}
 use Prim.Native.Nat.{ℕ, suc, _+_, _-_, _*_, _/_, _≤_, _<_, min}
 use native.Mathlib.Numerals.{add-one}
 use native.Mathlib.Omega.{arith}
 use borrow.Author.Tests.{leb-true, ne-eqb}
 use lib.Dec.{leb}
-use lib.ListN.{length, getD, set, take, drop, take-append-drop}
+use lib.ListN.{length, getD, replicate, set, take, drop, take-append-drop}
 use Rattle.laws.specs.Truth.{pick, both-true}
 use Rattle.laws.specs.Splice.{splice, part, length-part, lent-back}
 use Rattle.laws.specs.Reader.{bytes}
 use Rattle.blocks.specs.Numbers.{Number, digits}
-use Rattle.record.specs.Record.{Call, list, find, page, put, remove, Outcome}
+use Rattle.laws.specs.Padded.{padded-nil}
+use Rattle.record.specs.Record.{Call, list, find, page, put, remove, Answer, Outcome}
 use Rattle.rules.specs.Check.{callOf}
 use Rattle.calls.specs.declared.Listed.{Listed}
 use Rattle.calls.specs.Answers.{listedOf, Lists}
@@ -32,6 +33,10 @@ fits-end size at n h =
 -- a listing's reply, with the 12 bytes that list promises
 pub list-reply : (img : List ℕ) (o : Outcome (List ℕ)) (l : Listed) → Lists img o l → replyWith (listedOf l) (l .name) ≡ replyOf (o .answer)
 list-reply img o l e = ap (λ (x : Outcome (List ℕ)). replyWith (x .answer) (l .name)) (e .answer) ∙ ap (replyWith (o .answer)) (e .name)
+
+-- a reply without a name
+pub nameless : (a : Answer) → a .name ≡ [] → replyWith a (replicate 12 0) ≡ replyOf a
+nameless a e = rw (e, padded-nil 12) refl
 
 -- the writes of a reply's fields as one
 pub reply-written : (s : List ℕ) (r : Reply) {one two last : List ℕ} {end : ℕ} → one ≡ splice s 0 (digits 3 (r .number)) → two ≡ splice one 3 (digits 3 (r .value))

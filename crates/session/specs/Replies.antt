@@ -9,9 +9,9 @@ use lib.Dec.{eqb}
 use lib.ListN.{getD, drop}
 use Rattle.laws.specs.Reader.{bytes}
 use Rattle.blocks.specs.Numbers.{number, digits}
-use Rattle.record.specs.Record.{Call, Answer, accepted, entry, slotIs, paged, done, refused}
+use Rattle.record.specs.Record.{Call}
 use Rattle.rules.specs.Check.{callOf}
-use Rattle.rules.specs.Small.{Small, AllSmall, call-small}
+use Rattle.rules.specs.Small.{Small, call-small}
 use Rattle.session.specs.Script.{replyOf, flag, replyBytes}
 use Rattle.session.specs.declared.Reply.{Reply}
 
@@ -31,14 +31,6 @@ read-back r h k =
     let v : number 3 (bytes (replyBytes r)) 3 ≡ r .value = omega arith in
     rw (n, v, flag-back (r .end)) refl
 
-answer-back : (a : Answer) → AllSmall a → readReply (replyBytes (replyOf a)) ≡ replyOf a
-answer-back (accepted kind density files free) h = read-back (replyOf (accepted kind density files free)) (omega arith) (omega arith)
-answer-back (entry name letter length) h = read-back (replyOf (entry name letter length)) (omega arith) h
-answer-back (slotIs slot) h = read-back (replyOf (slotIs slot)) (omega arith) h
-answer-back (paged count end) h = read-back (replyOf (paged count end)) (omega arith) h
-answer-back done h = read-back (replyOf done) (omega arith) (omega arith)
-answer-back (refused number place) h = read-back (replyOf (refused number place)) (h .0) (h .1)
-
 -- What is written of any call on any image reads back.
 pub reply-back : (img : List ℕ) (c : Call) → readReply (replyBytes (replyOf (callOf img c .answer))) ≡ replyOf (callOf img c .answer)
-reply-back img c = answer-back (callOf img c .answer) (call-small img c)
+reply-back img c = let h = call-small img c in read-back (replyOf (callOf img c .answer)) (h .0) (h .1)

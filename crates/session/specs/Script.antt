@@ -6,16 +6,14 @@ use mathlib.Core.List.{List, _∷_, _++_}
 use mathlib.Core.Option.{Option, none, some}
 use Prim.Native.Nat.{ℕ, zero, suc, _-_, _*_, _/_, min}
 use lib.Dec.{leb, eqb}
-use lib.ListN.{length, getD, replicate}
+use lib.ListN.{length, getD}
 use Rattle.laws.specs.Truth.{pick, both}
 use Rattle.laws.specs.Splice.{splice, part}
 use Rattle.laws.specs.Padded.{padded}
 use Rattle.laws.specs.Reader.{bytes}
 use Rattle.blocks.specs.Numbers.{number, digits}
-use Rattle.record.specs.Record.{Call, list, find, page, put, remove, Answer, accepted, entry, slotIs, paged, done, refused, Outcome}
-use Rattle.rules.specs.declared.Checked.{Checked}
-use Rattle.rules.specs.Check.{answerOf, callOf}
-use Rattle.calls.specs.Answers.{nameIn}
+use Rattle.record.specs.Record.{Call, list, find, page, put, remove, Answer, numberIn, placeOr, Outcome}
+use Rattle.rules.specs.Check.{callOf}
 use Rattle.session.specs.declared.Reply.{Reply}
 
 -- ---- the calls of a script
@@ -51,25 +49,12 @@ entryCall e pool lent =
 
 -- ---- what is written for a call
 
-abbrev pub plain : ℕ → ℕ → Reply
-plain number value = record { number = number; value = value; letter = 0; end = false; name = replicate 12 0 }
-
--- An answer's number, 0 for none, and its place or its value: a slot, a count or a length; list's with the name's 12 bytes given beside it. No
--- call of a script is answered by `accepted`.
+-- An answer's number, its place or its value, type and end; list's with the name's 12 bytes given beside it.
 abbrev pub replyWith : Answer → List ℕ → Reply
-replyWith (accepted kind density files free) bytes = plain 0 0
-replyWith (entry name letter length) bytes = record { number = 0; value = length; letter = letter; end = false; name = bytes }
-replyWith (slotIs slot) bytes = plain 0 slot
-replyWith (paged count end) bytes = record { number = 0; value = count; letter = 0; end = end; name = replicate 12 0 }
-replyWith done bytes = plain 0 0
-replyWith (refused number place) bytes = plain number place
+replyWith a bytes = record { number = numberIn (a .refusal); value = placeOr (a .refusal) (a .value); letter = a .type; end = a .end; name = bytes }
 
 abbrev pub replyOf : Answer → Reply
-replyOf answer = replyWith answer (padded (nameIn answer) 12)
-
--- The reply of a call that the check refused: whatever name might be given beside it.
-abbrev pub Nameless : Checked → Reply → Type 0
-Nameless c r = (name : List ℕ) → r ≡ replyWith (answerOf c) name
+replyOf a = replyWith a (padded (a .name) 12)
 
 abbrev pub flag : Bool → ℕ
 flag true = 1

@@ -3,9 +3,10 @@ ghost use mathlib.Core.Path.{_≡_};
 ghost use Prim.Native.Nat.{_≤_};
 ghost use lib.ListN.{length};
 ghost use Rattle.laws.specs.Splice.{splice, part};
+ghost use Rattle.record.specs.Record.{refusedBy, paged};
 ghost use Rattle.rules.specs.Check.{callOf};
 ghost use Rattle.calls.specs.Answers.{foundOf, pagedOf, listedOf, removedOf, listCall, findCall, pageCall, putCall, removeCall};
-ghost use Rattle.session.specs.Script.{fits, plain, flag, Nameless, replyWith, replyOf, replyBytes, shownBy, afterEntry, putEntry, namedEntry, enteredBy, entered, afterRun, runOf};
+ghost use Rattle.session.specs.Script.{fits, flag, replyWith, replyOf, replyBytes, shownBy, afterEntry, putEntry, namedEntry, enteredBy, entered, afterRun, runOf};
 
 // An answer with the fields of all answers: refusal or 0, place or value, type, whether the end is reached, name.
 pub struct Reply {
@@ -16,31 +17,29 @@ pub struct Reply {
     pub name: [u8; 12],
 }
 
-// A reply with a number and a value alone.
-fn plain_reply(number: usize, value: usize) -> Reply
-    ensures { λ r. ⌜ r ≡ plain number value ⌝ }
+// A refusal's reply.
+fn refused_reply(refusal: laws::Refusal) -> Reply
+    ensures { λ r. ⌜ r ≡ replyOf (refusedBy refusal) ⌝ }
 {
     Reply {
-        number,
-        value,
+        number: refusal.number as usize,
+        value: refusal.place,
         letter: 0,
         end: false,
         name: [0; 12],
     }
 }
 
-// The reply of a call that the check refused.
-fn checked_reply(checked: rules::Checked) -> Reply
-    ensures { λ r. ⌜ Nameless checked r ⌝ }
+// A reply with a value, and whether the end is reached.
+fn value_reply(value: usize, end: bool) -> Reply
+    ensures { λ r. ⌜ r ≡ replyOf (paged value end) ⌝ }
 {
-    match checked {
-        rules::Checked::Accepted {
-            kind: _,
-            density: _,
-            files: _,
-            free: _,
-        } => plain_reply(0, 0),
-        rules::Checked::Refused { number, place } => plain_reply(number, place),
+    Reply {
+        number: 0,
+        value,
+        letter: 0,
+        end,
+        name: [0; 12],
     }
 }
 
@@ -61,8 +60,13 @@ fn listed_reply(listed: calls::Listed) -> Reply
             end: false,
             name,
         },
-        calls::Entry::Refusal { number, place } => plain_reply(number, place),
-        calls::Entry::Unchecked(checked) => checked_reply(checked),
+        calls::Entry::Refused(refusal) => Reply {
+            number: refusal.number as usize,
+            value: refusal.place,
+            letter: 0,
+            end: false,
+            name,
+        },
     }
 }
 
@@ -70,9 +74,8 @@ fn found_reply(found: calls::Found) -> Reply
     ensures { λ r. ⌜ r ≡ replyOf (foundOf found) ⌝ }
 {
     match found {
-        calls::Found::At(slot) => plain_reply(0, slot),
-        calls::Found::Refusal { number, place } => plain_reply(number, place),
-        calls::Found::Unchecked(checked) => checked_reply(checked),
+        calls::Found::At(slot) => value_reply(slot, false),
+        calls::Found::Refused(refusal) => refused_reply(refusal),
     }
 }
 
@@ -80,15 +83,8 @@ fn paged_reply(paged: calls::Paged) -> Reply
     ensures { λ r. ⌜ r ≡ replyOf (pagedOf paged) ⌝ }
 {
     match paged {
-        calls::Paged::Page { count, end } => Reply {
-            number: 0,
-            value: count,
-            letter: 0,
-            end,
-            name: [0; 12],
-        },
-        calls::Paged::Refusal { number, place } => plain_reply(number, place),
-        calls::Paged::Unchecked(checked) => checked_reply(checked),
+        calls::Paged::Page { count, end } => value_reply(count, end),
+        calls::Paged::Refused(refusal) => refused_reply(refusal),
     }
 }
 
@@ -96,9 +92,8 @@ fn removed_reply(removed: calls::Removed) -> Reply
     ensures { λ r. ⌜ r ≡ replyOf (removedOf removed) ⌝ }
 {
     match removed {
-        calls::Removed::Done => plain_reply(0, 0),
-        calls::Removed::Refusal { number, place } => plain_reply(number, place),
-        calls::Removed::Unchecked(checked) => checked_reply(checked),
+        calls::Removed::Done => value_reply(0, false),
+        calls::Removed::Refused(refusal) => refused_reply(refusal),
     }
 }
 

@@ -1,15 +1,13 @@
 // The C interface (include/skilletjay.h): each call takes any bytes, and promises every field of its result and every byte of a lent output.
 ghost use mathlib.Core.Path.{_≡_};
-ghost use Prim.Native.Nat.{_%_};
-ghost use Rattle.record.specs.Record.{check};
+ghost use Rattle.record.specs.Record.{check, kindNumber, densityNumber};
 ghost use Rattle.rules.specs.Check.{answerOf, callOf};
 ghost use Rattle.calls.specs.Answers.{foundOf, pagedOf, listedOf, removedOf, listCall, findCall, pageCall, putCall, removeCall};
-ghost use Rattle.locate.specs.Locate.{numbersOf, blocksOf};
+ghost use Rattle.locate.specs.Locate.{blocksOf};
 ghost use Rattle.session.specs.Script.{afterRun, runOf};
 ghost use Rattle.samples.specs.Samples.{unpackOf, packOf};
 ghost use Rattle.program.specs.Program.{programOf};
-ghost use Rattle.skilletjay.specs.Results.{kindNumber, densityNumber, checkedResult, listedRefusal, listedWith, listedResult, foundRefusal, foundResult, pagedRefusal, pagedResult, doneResult, countedResult, blocksResult};
-ghost use Rattle.skilletjay.specs.Narrow.{narrow, cut};
+ghost use Rattle.skilletjay.specs.Results.{checkedResult, listedWith, listedResult, foundResult, pagedResult, doneResult, countedResult};
 use samples::Sampler;
 
 // sj_checked: kind 900 or 1000, density 0 low or 1 high, the number of files and of free blocks.
@@ -65,13 +63,6 @@ pub struct CCounted {
     pub count: usize,
 }
 
-// A refusal's number in 32 bits. No call has one that this changes (`call-narrow`).
-fn number_of(number: usize) -> u32
-    ensures { λ r. ⌜ r ≡ number % 4294967296 ⌝ }
-{
-    (number % 4294967296) as u32
-}
-
 // C's number for a kind.
 fn kind_number(kind: layout::Kind) -> u32
     ensures { λ r. ⌜ r ≡ kindNumber kind ⌝ }
@@ -94,7 +85,7 @@ fn density_number(density: layout::Density) -> u32
 
 // What C gets of the check.
 fn checked_result(checked: rules::Checked) -> CChecked
-    ensures { λ r. ⌜ r ≡ checkedResult (narrow (answerOf checked)) ⌝ }
+    ensures { λ r. ⌜ r ≡ checkedResult (answerOf checked) ⌝ }
 {
     match checked {
         rules::Checked::Accepted {
@@ -110,9 +101,9 @@ fn checked_result(checked: rules::Checked) -> CChecked
             files,
             free,
         },
-        rules::Checked::Refused { number, place } => CChecked {
-            refusal: number_of(number),
-            place,
+        rules::Checked::Refused(refusal) => CChecked {
+            refusal: refusal.number,
+            place: refusal.place,
             kind: 0,
             density: 0,
             files: 0,
@@ -121,43 +112,9 @@ fn checked_result(checked: rules::Checked) -> CChecked
     }
 }
 
-// The check's refusal alone, for the results of calls that it refused.
-fn checked_done(checked: rules::Checked) -> CDone
-    ensures { λ r. ⌜ r ≡ doneResult (narrow (answerOf checked)) ⌝ }
-{
-    match checked {
-        rules::Checked::Accepted {
-            kind: _,
-            density: _,
-            files: _,
-            free: _,
-        } => CDone {
-            refusal: 0,
-            place: 0,
-        },
-        rules::Checked::Refused { number, place } => CDone {
-            refusal: number_of(number),
-            place,
-        },
-    }
-}
-
-// A list's result without a file: a refusal's number and place, all else 0.
-fn listed_refusal(refusal: u32, place: usize) -> CListed
-    ensures { λ r. ⌜ r ≡ listedRefusal refusal place ⌝ }
-{
-    CListed {
-        refusal,
-        place,
-        name: [0; 12],
-        letter: 0,
-        length: 0,
-    }
-}
-
 // What C gets of a listing. Its 12 bytes are zeros but for the name (`Lists`).
 fn listed_result(listed: calls::Listed) -> CListed
-    ensures { λ r. ⌜ r ≡ listedWith (narrow (listedOf listed)) (listed .name) ⌝ }
+    ensures { λ r. ⌜ r ≡ listedWith (listedOf listed) (listed .name) ⌝ }
 {
     let entry = listed.entry;
     let name = listed.name;
@@ -173,28 +130,19 @@ fn listed_result(listed: calls::Listed) -> CListed
             letter,
             length,
         },
-        calls::Entry::Refusal { number, place } => listed_refusal(number_of(number), place),
-        calls::Entry::Unchecked(checked) => {
-            let done = checked_done(checked);
-            listed_refusal(done.refusal, done.place)
-        }
-    }
-}
-
-// A find's result without a slot: a refusal's number and place, all else 0.
-fn found_refusal(refusal: u32, place: usize) -> CFound
-    ensures { λ r. ⌜ r ≡ foundRefusal refusal place ⌝ }
-{
-    CFound {
-        refusal,
-        place,
-        slot: 0,
+        calls::Entry::Refused(refusal) => CListed {
+            refusal: refusal.number,
+            place: refusal.place,
+            name,
+            letter: 0,
+            length: 0,
+        },
     }
 }
 
 // What C gets of a find.
 fn found_result(found: calls::Found) -> CFound
-    ensures { λ r. ⌜ r ≡ foundResult (narrow (foundOf found)) ⌝ }
+    ensures { λ r. ⌜ r ≡ foundResult (foundOf found) ⌝ }
 {
     match found {
         calls::Found::At(slot) => CFound {
@@ -202,29 +150,17 @@ fn found_result(found: calls::Found) -> CFound
             place: 0,
             slot,
         },
-        calls::Found::Refusal { number, place } => found_refusal(number_of(number), place),
-        calls::Found::Unchecked(checked) => {
-            let done = checked_done(checked);
-            found_refusal(done.refusal, done.place)
-        }
-    }
-}
-
-// A page's result without bytes: a refusal's number and place, all else 0.
-fn paged_refusal(refusal: u32, place: usize) -> CPaged
-    ensures { λ r. ⌜ r ≡ pagedRefusal refusal place ⌝ }
-{
-    CPaged {
-        refusal,
-        place,
-        count: 0,
-        end: false,
+        calls::Found::Refused(refusal) => CFound {
+            refusal: refusal.number,
+            place: refusal.place,
+            slot: 0,
+        },
     }
 }
 
 // What C gets of a page.
 fn paged_result(paged: calls::Paged) -> CPaged
-    ensures { λ r. ⌜ r ≡ pagedResult (narrow (pagedOf paged)) ⌝ }
+    ensures { λ r. ⌜ r ≡ pagedResult (pagedOf paged) ⌝ }
 {
     match paged {
         calls::Paged::Page { count, end } => CPaged {
@@ -233,72 +169,46 @@ fn paged_result(paged: calls::Paged) -> CPaged
             count,
             end,
         },
-        calls::Paged::Refusal { number, place } => paged_refusal(number_of(number), place),
-        calls::Paged::Unchecked(checked) => {
-            let done = checked_done(checked);
-            paged_refusal(done.refusal, done.place)
-        }
+        calls::Paged::Refused(refusal) => CPaged {
+            refusal: refusal.number,
+            place: refusal.place,
+            count: 0,
+            end: false,
+        },
     }
 }
 
 // What C gets of a remove.
 fn done_result(removed: calls::Removed) -> CDone
-    ensures { λ r. ⌜ r ≡ doneResult (narrow (removedOf removed)) ⌝ }
+    ensures { λ r. ⌜ r ≡ doneResult (removedOf removed) ⌝ }
 {
     match removed {
         calls::Removed::Done => CDone {
             refusal: 0,
             place: 0,
         },
-        calls::Removed::Refusal { number, place } => CDone {
-            refusal: number_of(number),
-            place,
+        calls::Removed::Refused(refusal) => CDone {
+            refusal: refusal.number,
+            place: refusal.place,
         },
-        calls::Removed::Unchecked(checked) => checked_done(checked),
     }
 }
 
-// What C gets of a call on a sample or program file.
-fn counted_result(counted: headers::Counted) -> CCounted
+// What C gets of a call that gives a count.
+fn counted_result(counted: laws::Counted) -> CCounted
     ensures { λ r. ⌜ r ≡ countedResult counted ⌝ }
 {
     match counted {
-        headers::Counted::Done(count) => CCounted {
+        laws::Counted::Done(count) => CCounted {
             refusal: 0,
             place: 0,
             count,
         },
-        headers::Counted::Refused { number, place } => CCounted {
-            refusal: number,
-            place,
+        laws::Counted::Refused(refusal) => CCounted {
+            refusal: refusal.number,
+            place: refusal.place,
             count: 0,
         },
-    }
-}
-
-// What C gets of a call for a file's blocks.
-fn located_result(located: locate::Located) -> CCounted
-    ensures { λ r. ⌜ r ≡ blocksResult (cut (numbersOf located)) ⌝ }
-{
-    match located {
-        locate::Located::Blocks(count) => CCounted {
-            refusal: 0,
-            place: 0,
-            count,
-        },
-        locate::Located::Refusal { number, place } => CCounted {
-            refusal: number_of(number),
-            place,
-            count: 0,
-        },
-        locate::Located::Unchecked(checked) => {
-            let done = checked_done(checked);
-            CCounted {
-                refusal: done.refusal,
-                place: done.place,
-                count: 0,
-            }
-        }
     }
 }
 
@@ -340,10 +250,10 @@ pub extern "C" fn sj_page(image: &[u8], slot: usize, offset: usize, out: &mut [u
 // lent and kept; the output's other numbers are kept, and all of them on a refusal.
 #[no_mangle]
 pub extern "C" fn sj_blocks(image: &[u8], slot: usize, out: &mut [u16]) -> CCounted
-    ensures answer { λ r. ⌜ r ≡ blocksResult (blocksOf (now (image .entry)) slot (now (out .entry)) .answer) ⌝ }
+    ensures answer { λ r. ⌜ r ≡ countedResult (blocksOf (now (image .entry)) slot (now (out .entry)) .answer) ⌝ }
     ensures output { λ _. ⌜ now (out .exit) ≡ blocksOf (now (image .entry)) slot (now (out .entry)) .output ⌝ }
 {
-    located_result(locate::file_blocks(image, slot, out))
+    counted_result(locate::file_blocks(image, slot, out))
 }
 
 // Puts a file: its slot is the lowest empty one, its blocks the lowest free ones. Refusals 1 to 9, then 11, 13, 12 at the slot that has the

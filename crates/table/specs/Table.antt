@@ -21,6 +21,7 @@ use Rattle.record.specs.Record.{Call, put, judgePut}
 use Rattle.record.specs.declared.Judged.the-variants.{Grant}
 use Rattle.record.specs.Update.{put-effect}
 use Rattle.rules.specs.declared.Checked.{Checked}
+use Rattle.laws.specs.Refusals.{refusalAt}
 use Rattle.rules.specs.declared.Checked.the-variants.{Accepted, Refused}
 use Rattle.rules.specs.Check.{checkHead, checkOf, callOf}
 use Rattle.rules.specs.Accepted.{accepted-rules}
@@ -60,15 +61,15 @@ name = replicate 10 65
 abbrev pub rows : List Row
 rows =
     checks 819200 zeros (Accepted S900 Low 0 796)  -- P1
-    ∷ checks 819199 zeros (Refused 1 0)  -- P2
+    ∷ checks 819199 zeros (Refused (refusalAt 1 0))  -- P2
     ∷ checks 1638400 (file high 0 11 1024 5 (value 5 19152 (blank high))) (Accepted S1000 High 1 1594)  -- P3
-    ∷ checks 1638400 (file high 0 11 1025 5 (value 5 19152 (blank high))) (Refused 7 0)  -- P4
-    ∷ checks 1638400 (file high 0 11 1024 4 (value 5 19152 (blank high))) (Refused 6 0)  -- P5
+    ∷ checks 1638400 (file high 0 11 1025 5 (value 5 19152 (blank high))) (Refused (refusalAt 7 0))  -- P4
+    ∷ checks 1638400 (file high 0 11 1024 4 (value 5 19152 (blank high))) (Refused (refusalAt 6 0))  -- P5
     ∷ checks 819200 (file low 0 65 1 4 (value 4 32768 zeros)) (Accepted S900 Low 1 795)  -- P6
-    ∷ checks 1638400 (file high 0 11 1024 1600 (value 5 19152 (blank high))) (Refused 6 0)  -- P7
-    ∷ checks 1638400 (file high 0 11 2048 5 (value 5 5 (blank high))) (Refused 7 0)  -- P8
-    ∷ checks 1638400 (file high 0 11 1 5 (file high 1 12 1 5 (value 5 19152 (blank high)))) (Refused 8 1)  -- P9
-    ∷ checks 819200 (value 9 32768 zeros) (Refused 9 9)  -- P10
+    ∷ checks 1638400 (file high 0 11 1024 1600 (value 5 19152 (blank high))) (Refused (refusalAt 6 0))  -- P7
+    ∷ checks 1638400 (file high 0 11 2048 5 (value 5 5 (blank high))) (Refused (refusalAt 7 0))  -- P8
+    ∷ checks 1638400 (file high 0 11 1 5 (file high 1 12 1 5 (value 5 19152 (blank high)))) (Refused (refusalAt 8 1))  -- P9
+    ∷ checks 819200 (value 9 32768 zeros) (Refused (refusalAt 9 9))  -- P10
     ∷ packs (pos 291 ∷ negsuc 0 ∷ []) (63 ∷ 18 ∷ 255 ∷ [])  -- P11
     ∷ packs (negsuc 2047 ∷ pos 2047 ∷ []) (15 ∷ 128 ∷ 127 ∷ [])  -- P12
     ∷ leaves 819200 zeros (put name 65 (replicate 1025 7)) ((4, 5) ∷ (5, 32768) ∷ [])  -- P13

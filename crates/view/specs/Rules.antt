@@ -9,6 +9,7 @@ use native.Mathlib.Omega.{arith}
 use lib.Dec.{eqb}
 use borrow.Author.Tests.{eqb-true, eqb-false, eq-eqb, ne-eqb, not-true, not-false}
 use Rattle.laws.specs.Truth.{both, both-false, false-both, clash, false-if}
+use Rattle.laws.specs.Refusals.{refusalAt}
 use Rattle.laws.specs.Scan.{lowest, nowhere→, →nowhere, any, none→, →none}
 use Rattle.laws.specs.declared.Lowest.{Lowest}
 use Rattle.laws.specs.declared.Lowest.the-variants.{At, Nowhere}
@@ -27,7 +28,7 @@ use Rattle.view.specs.Counting.{slot-in, owned-by, by-owned}
 
 -- The refusal at the place found, or what comes next.
 abbrev pub orFail : (ℕ → ℕ) → Lowest → Ruled → Ruled
-orFail number (At k) next = Fail (number k) k
+orFail number (At k) next = Fail (refusalAt (number k) k)
 orFail number Nowhere next = next
 
 module _ (l : Layout) (v : View) where

@@ -16,10 +16,13 @@ enum-known-checked c = search needs
 enum-told : tie.Need-enum-told
 enum-told c = search needs
 
+refusal-of-requires : tie.Need-refusal-of-requires
+refusal-of-requires c κs = search needs
+
 returns : tie.Need-returns
 returns c =
-    let a = c .before .before .before .before .before .args in
-    call-refused (now (a .image)) (findCall (now (a .name))) (c .before .before .check .ensures) (c .enum-told .given .1)
+    let a = c .before .before .before .before .before .before .args in
+    call-refused (now (a .image)) (findCall (now (a .name))) (c .before .before .before .check .ensures) (c .before .enum-told .given .1) (c .refusal-of .ensures)
 
 layout-of-requires : tie.Need-layout-of-requires
 layout-of-requires c κs = search needs
@@ -48,6 +51,7 @@ find-spec =
     check-requires
     enum-known-checked
     enum-told
+    refusal-of-requires
     returns
     layout-of-requires
     judge-name-requires

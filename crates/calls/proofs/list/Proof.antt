@@ -16,13 +16,16 @@ enum-known-checked c = search needs
 enum-told : tie.Need-enum-told
 enum-told c = search needs
 
+refusal-of-requires : tie.Need-refusal-of-requires
+refusal-of-requires c κs = search needs
+
 unlisted-requires : tie.Need-unlisted-requires
 unlisted-requires c κs = search needs
 
 returns : tie.Need-returns
 returns c =
-    let a = c .before .before .before .before .before .args in
-    lists-refused (now (a .image)) (a .slot) (c .before .before .before .check .ensures) (c .before .enum-told .given .1) (c .unlisted .ensures)
+    let a = c .before .before .before .before .before .before .args in
+    lists-refused (now (a .image)) (a .slot) (c .before .before .before .before .check .ensures) (c .before .before .enum-told .given .1) (c .before .refusal-of .ensures) (c .unlisted .ensures)
 
 layout-of-requires : tie.Need-layout-of-requires
 layout-of-requires c κs = search needs
@@ -48,6 +51,7 @@ list-spec =
     check-requires
     enum-known-checked
     enum-told
+    refusal-of-requires
     unlisted-requires
     returns
     layout-of-requires

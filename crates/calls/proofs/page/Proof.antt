@@ -17,10 +17,13 @@ enum-known-checked c = search needs
 enum-told : tie.Need-enum-told
 enum-told c = search needs
 
+refusal-of-requires : tie.Need-refusal-of-requires
+refusal-of-requires c κs = search needs
+
 returns : tie.Need-returns
 returns c =
-    let a = c .before .before .before .before .before .args in
-    call-refused (now (a .image)) (pageCall (a .slot) (a .offset) (now (a .out))) (c .before .before .check .ensures) (c .enum-told .given .1)
+    let a = c .before .before .before .before .before .before .args in
+    call-refused (now (a .image)) (pageCall (a .slot) (a .offset) (now (a .out))) (c .before .before .before .check .ensures) (c .before .enum-told .given .1) (c .refusal-of .ensures)
 
 layout-of-requires : tie.Need-layout-of-requires
 layout-of-requires c κs = search needs
@@ -51,6 +54,7 @@ page-spec =
     check-requires
     enum-known-checked
     enum-told
+    refusal-of-requires
     returns
     layout-of-requires
     page-slot-requires

@@ -20,13 +20,16 @@ enum-known-checked c = search needs
 enum-told : tie.Need-enum-told
 enum-told c = search needs
 
+refusal-of-requires : tie.Need-refusal-of-requires
+refusal-of-requires c κs = search needs
+
 same-length : tie.Need-same-length
 same-length c = search needs
 
 returns : tie.Need-returns
 returns c =
-    let a = c .before .before .before .before .before .before .before .args in
-    call-refused (now (a .image)) (putCall (now (a .name)) (a .letter) (now (a .content))) (c .before .before .check .ensures) (c .enum-told .given .1)
+    let a = c .before .before .before .before .before .before .before .before .args in
+    call-refused (now (a .image)) (putCall (now (a .name)) (a .letter) (now (a .content))) (c .before .before .before .check .ensures) (c .before .enum-told .given .1) (c .refusal-of .ensures)
 
 layout-of-requires : tie.Need-layout-of-requires
 layout-of-requires c κs = search needs
@@ -108,6 +111,7 @@ put-spec =
     check-requires
     enum-known-checked
     enum-told
+    refusal-of-requires
     same-length
     returns
     layout-of-requires

@@ -23,6 +23,7 @@ use Rattle.map.specs.Marks.{Marks, marks-none, mark-last, mark-next}
 use Rattle.map.specs.Walks.{link-data, walk-chained, walk-bad, walk-whole, walk-over, walk-cut, walk-on}
 use Rattle.view.specs.declared.Ruled.the-variants.{Pass, Fail}
 use Rattle.view.specs.Disk.{View, used, owned}
+use Rattle.laws.specs.Refusals.{refusalAt}
 use Rattle.view.specs.Rules.{walkOf, broken, orFail}
 use Rattle.image.specs.Image.{viewOf}
 use Rattle.chains.specs.Passes.{Followed}
@@ -47,7 +48,7 @@ module _ (l : Layout) (v : View) (s : ℕ) where
 
   -- the lowest slot whose walk is not whole is the fault, by the refusal of its walk
   stop-at : (n : ℕ) (w : Walk) → s < n → used (v .entry s) ≡ true → walkOf l v s ≡ w → isWhole w ≡ false → lowest (broken l v) 0 n ≡ lowest (broken l v) s (n - s)
-      → Fail (faultOf w) s ≡ orFail (λ t. faultOf (walkOf l v t)) (lowest (broken l v) 0 n) Pass
+      → Fail (refusalAt (faultOf w) s) ≡ orFail (λ t. faultOf (walkOf l v t)) (lowest (broken l v) 0 n) Pass
   stop-at n w h u e f i =
       let bad : broken l v s ≡ true = unfold broken in true-both (used (v .entry s)) (not (isWhole (walkOf l v s))) u (ap (λ (x : Walk). not (isWhole x)) e ∙ ap not f) in
       let found : lowest (broken l v) 0 n ≡ At s = i ∙ lowest-stop (broken l v) s n h bad in
@@ -164,7 +165,7 @@ stopped : (c : tie.At-loop Inv-loop μ-loop Inv-slots μ-slots) (w : Walk)
     let v = viewOf (a .layout) (bytes (a .head .now)) in
     let s = c .before .before .before .before .before .before .slots .next in
     walk (a .layout) (mapAt (bytes (a .head .now))) (c .loop .left) (c .loop .block) ≡ w → isWhole w ≡ false
-    → (ms : List Bool) → Followed (a .layout) v ms (Fail (faultOf w) s))
+    → (ms : List Bool) → Followed (a .layout) v ms (Fail (refusalAt (faultOf w) s)))
 stopped c w e f ms =
     let u = c .before .before .before in
     let o = u .before .before in

@@ -1,4 +1,4 @@
--- `session::found_reply` meets its contract: a slot, a refusal or the check's refusal as a reply.
+-- `session::found_reply` meets its contract: what was done, or a refusal, as a reply.
 -- By the answer's cases. Assumes nothing.
 use mathlib.Core.Path.{sym, ap, _∙_}
 use borrow.Author.Needs.{needs}
@@ -11,40 +11,20 @@ use Rattle.session.proofs.found_reply.Tie as tie
 enum-known-found : tie.Need-enum-known-found
 enum-known-found c = search needs
 
-plain-reply-requires : tie.Need-plain-reply-requires
-plain-reply-requires c κs = search needs
+value-reply-requires : tie.Need-value-reply-requires
+value-reply-requires c κs = search needs
 
 enum-known-found-2 : tie.Need-enum-known-found-2
 enum-known-found-2 c = search needs
 
-plain-reply-requires-2 : tie.Need-plain-reply-requires-2
-plain-reply-requires-2 c κs = search needs
-
-enum-known-found-3 : tie.Need-enum-known-found-3
-enum-known-found-3 c = search needs
-
-checked-reply-requires : tie.Need-checked-reply-requires
-checked-reply-requires c κs = search needs
+refused-reply-requires : tie.Need-refused-reply-requires
+refused-reply-requires c κs = search needs
 
 returns : tie.Need-returns
-returns c = c .plain-reply .ensures ∙ ap (λ (x : Found). replyOf (foundOf x)) (sym (c .before .before .found .given .1))
+returns c = c .value-reply .ensures ∙ ap (λ (x : Found). replyOf (foundOf x)) (sym (c .before .before .found .given .1))
 
 returns-2 : tie.Need-returns-2
-returns-2 c = c .plain-reply2 .ensures ∙ ap (λ (x : Found). replyOf (foundOf x)) (sym (c .before .before .found2 .given .1))
-
-returns-3 : tie.Need-returns-3
-returns-3 c = c .checked-reply .ensures _ ∙ ap (λ (x : Found). replyOf (foundOf x)) (sym (c .before .before .found3 .given .1))
+returns-2 c = c .refused-reply .ensures ∙ ap (λ (x : Found). replyOf (foundOf x)) (sym (c .before .before .found2 .given .1))
 
 pub found-reply-spec : {M : Type 1} → statement M
-found-reply-spec =
-    tie.close
-    (tie.spec
-    enum-known-found
-    plain-reply-requires
-    enum-known-found-2
-    plain-reply-requires-2
-    enum-known-found-3
-    checked-reply-requires
-    returns
-    returns-2
-    returns-3)
+found-reply-spec = tie.close (tie.spec enum-known-found value-reply-requires enum-known-found-2 refused-reply-requires returns returns-2)

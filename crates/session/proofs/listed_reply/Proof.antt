@@ -1,6 +1,6 @@
--- `session::listed_reply` meets its contract: a file's entry with its 12 name bytes, a refusal or the check's refusal as a reply.
+-- `session::listed_reply` meets its contract: a file's entry with its 12 name bytes, or a refusal, as a reply.
 -- By the answer's cases. Assumes nothing.
-use mathlib.Core.Path.{sym, ap, _∙_}
+use mathlib.Core.Path.{sym, ap}
 use borrow.Author.Needs.{needs}
 use Rattle.session.specs.Script.{replyWith}
 use Rattle.calls.specs.Answers.{entryOf}
@@ -14,33 +14,20 @@ enum-known-entry c = search needs
 enum-known-entry-2 : tie.Need-enum-known-entry-2
 enum-known-entry-2 c = search needs
 
-plain-reply-requires : tie.Need-plain-reply-requires
-plain-reply-requires c κs = search needs
-
-enum-known-entry-3 : tie.Need-enum-known-entry-3
-enum-known-entry-3 c = search needs
-
-checked-reply-requires : tie.Need-checked-reply-requires
-checked-reply-requires c κs = search needs
+cast-t8 : tie.Need-cast-t8
+cast-t8 c = search needs
 
 returns : tie.Need-returns
-returns c = ap (λ (x : Entry). replyWith (entryOf x (c .before .before .before .before .args .listed .name)) (c .before .before .before .before .args .listed .name)) (sym (c .before .entry .given .1))
+returns c =
+    let name = c .before .before .before .before .args .listed .name in
+    let e = c .before .entry .given in
+    ap (λ (x : Entry). replyWith (entryOf x name) name) (sym (e .1))
 
 returns-2 : tie.Need-returns-2
-returns-2 c = c .plain-reply .ensures ∙ ap (λ (x : Entry). replyWith (entryOf x (c .before .before .before .before .before .args .listed .name)) (c .before .before .before .before .before .args .listed .name)) (sym (c .before .before .entry2 .given .1))
-
-returns-3 : tie.Need-returns-3
-returns-3 c = c .checked-reply .ensures _ ∙ ap (λ (x : Entry). replyWith (entryOf x (c .before .before .before .before .before .args .listed .name)) (c .before .before .before .before .before .args .listed .name)) (sym (c .before .before .entry3 .given .1))
+returns-2 c =
+    let name = c .before .before .before .before .before .args .listed .name in
+    let e = c .before .before .entry2 .given in
+    ap (λ (x : Entry). replyWith (entryOf x name) name) (sym (e .1))
 
 pub listed-reply-spec : {M : Type 1} → statement M
-listed-reply-spec =
-    tie.close
-    (tie.spec
-    enum-known-entry
-    enum-known-entry-2
-    plain-reply-requires
-    enum-known-entry-3
-    checked-reply-requires
-    returns
-    returns-2
-    returns-3)
+listed-reply-spec = tie.close (tie.spec enum-known-entry enum-known-entry-2 cast-t8 returns returns-2)

@@ -1,10 +1,12 @@
 -- `skilletjay::sj_check` meets its contract: the result is that of the check as a call.
--- What the check ensures, with its number cut; the cut changes none (`checked-narrow`). Assumes nothing.
-use mathlib.Core.Path.{_∙_, ap}
+-- What the check ensures, and the check as a call (`check-call`). Assumes nothing.
+use mathlib.Core.Path.{_∙_, sym, ap}
 use denote.Ref.{now}
 use borrow.Author.Needs.{needs}
 use Rattle.skilletjay.specs.Results.{checkedResult}
-use Rattle.skilletjay.specs.Narrow.{checked-narrow}
+use Rattle.rules.specs.declared.Checked.{Checked}
+use Rattle.rules.specs.Check.{answerOf}
+use Rattle.rules.specs.Demand.{check-call}
 use Rattle.skilletjay.proofs.sj_check.Statement.{statement}
 use Rattle.skilletjay.proofs.sj_check.Tie as tie
 
@@ -15,7 +17,7 @@ checked-result-requires : tie.Need-checked-result-requires
 checked-result-requires c κs = search needs
 
 returns : tie.Need-returns
-returns c = c .checked-result .ensures ∙ ap checkedResult (checked-narrow (now (c .before .before .before .args .image)) (c .before .check .ensures))
+returns c = c .checked-result .ensures ∙ ap (λ (w : Checked). checkedResult (answerOf w)) (c .before .check .ensures) ∙ ap checkedResult (sym (check-call (now (c .before .before .before .args .image))))
 
 pub sj-check-spec : {M : Type 1} → statement M
 sj-check-spec = tie.close (tie.spec check-requires checked-result-requires returns)

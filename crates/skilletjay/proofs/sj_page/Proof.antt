@@ -1,14 +1,11 @@
 -- `skilletjay::sj_page` meets its contract: the result is that of page's answer, and the lent output is page's.
--- What page ensures, with its number cut; the cut changes none (`came-narrow`). Assumes nothing.
+-- What page ensures. Assumes nothing.
 use mathlib.Core.Path.{_∙_, ap}
 use mathlib.Core.List.{List}
 use Prim.Native.Nat.{ℕ}
-use denote.Ref.{now}
 use borrow.Author.Needs.{needs}
 use Rattle.record.specs.Record.{Outcome}
-use Rattle.calls.specs.Answers.{pageCall}
 use Rattle.skilletjay.specs.Results.{pagedResult}
-use Rattle.skilletjay.specs.Narrow.{came-narrow}
 use Rattle.skilletjay.proofs.sj_page.Statement.{statement}
 use Rattle.skilletjay.proofs.sj_page.Tie as tie
 
@@ -24,9 +21,8 @@ same-length c = search needs
 returns : tie.Need-returns
 returns c =
     let g = c .before .before .before in
-    let a = g .before .before .before .before .args in
     let e = g .page .ensures in
-    (c .paged-result .ensures ∙ ap pagedResult (came-narrow (now (a .image)) (pageCall (a .slot) (a .offset) (now (a .out))) _ _ _ e), ap (λ (o : Outcome (List ℕ)). o .output) e)
+    (c .paged-result .ensures ∙ ap (λ (o : Outcome (List ℕ)). pagedResult (o .answer)) e, ap (λ (o : Outcome (List ℕ)). o .output) e)
 
 pub sj-page-spec : {M : Type 1} → statement M
 sj-page-spec = tie.close (tie.spec page-requires paged-result-requires same-length returns)

@@ -1,14 +1,11 @@
 -- `skilletjay::sj_put` meets its contract: the result is that of put's answer, and the image is the one that put leaves.
--- What put ensures, with its number cut; the cut changes none (`came-narrow`). Assumes nothing.
+-- What put ensures. Assumes nothing.
 use mathlib.Core.Path.{ap, _∙_}
 use mathlib.Core.List.{List}
 use Prim.Native.Nat.{ℕ}
-use denote.Ref.{now}
 use borrow.Author.Needs.{needs}
 use Rattle.record.specs.Record.{Outcome}
-use Rattle.calls.specs.Answers.{putCall}
 use Rattle.skilletjay.specs.Results.{foundResult}
-use Rattle.skilletjay.specs.Narrow.{came-narrow}
 use Rattle.skilletjay.proofs.sj_put.Statement.{statement}
 use Rattle.skilletjay.proofs.sj_put.Tie as tie
 
@@ -24,9 +21,8 @@ same-length c = search needs
 returns : tie.Need-returns
 returns c =
     let g = c .before .before .before in
-    let a = g .before .before .before .before .before .args in
     let e = g .put .ensures in
-    (c .found-result .ensures ∙ ap foundResult (came-narrow (now (a .image)) (putCall (now (a .name)) (a .letter) (now (a .content))) _ _ _ e), ap (λ (o : Outcome (List ℕ)). o .state) e)
+    (c .found-result .ensures ∙ ap (λ (o : Outcome (List ℕ)). foundResult (o .answer)) e, ap (λ (o : Outcome (List ℕ)). o .state) e)
 
 pub sj-put-spec : {M : Type 1} → statement M
 sj-put-spec = tie.close (tie.spec put-requires found-result-requires same-length returns)

@@ -1,14 +1,11 @@
 -- `skilletjay::sj_remove` meets its contract: the result is that of remove's answer, and the image is the one that remove leaves.
--- What remove ensures, with its number cut; the cut changes none (`came-narrow`). Assumes nothing.
+-- What remove ensures. Assumes nothing.
 use mathlib.Core.Path.{ap, _∙_}
 use mathlib.Core.List.{List}
 use Prim.Native.Nat.{ℕ}
-use denote.Ref.{now}
 use borrow.Author.Needs.{needs}
 use Rattle.record.specs.Record.{Outcome}
-use Rattle.calls.specs.Answers.{removeCall}
 use Rattle.skilletjay.specs.Results.{doneResult}
-use Rattle.skilletjay.specs.Narrow.{came-narrow}
 use Rattle.skilletjay.proofs.sj_remove.Statement.{statement}
 use Rattle.skilletjay.proofs.sj_remove.Tie as tie
 
@@ -24,9 +21,8 @@ same-length c = search needs
 returns : tie.Need-returns
 returns c =
     let g = c .before .before .before in
-    let a = g .before .before .before .before .args in
     let e = g .remove .ensures in
-    (c .done-result .ensures ∙ ap doneResult (came-narrow (now (a .image)) (removeCall (now (a .name))) _ _ _ e), ap (λ (o : Outcome (List ℕ)). o .state) e)
+    (c .done-result .ensures ∙ ap (λ (o : Outcome (List ℕ)). doneResult (o .answer)) e, ap (λ (o : Outcome (List ℕ)). o .state) e)
 
 pub sj-remove-spec : {M : Type 1} → statement M
 sj-remove-spec = tie.close (tie.spec remove-requires done-result-requires same-length returns)

@@ -3,7 +3,7 @@
 use mathlib.Core.Path.{ap, _∙_}
 use lib.IntN.{ℤ}
 use borrow.Author.Needs.{needs}
-use Rattle.samples.specs.Samples.{Filled}
+use Rattle.laws.specs.Refusals.{Filled}
 use Rattle.skilletjay.specs.Results.{countedResult}
 use Rattle.skilletjay.proofs.sj_s900_unpack.Statement.{statement}
 use Rattle.skilletjay.proofs.sj_s900_unpack.Tie as tie

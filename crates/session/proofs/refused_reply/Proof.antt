@@ -1,0 +1,17 @@
+-- `session::refused_reply` meets its contract: the refusal's number and place as a reply.
+-- By `nameless`. Assumes nothing.
+use borrow.Author.Needs.{needs}
+use mathlib.Core.Path.{refl}
+use Rattle.record.specs.Record.{refusedBy}
+use Rattle.session.specs.Entries.{nameless}
+use Rattle.session.proofs.refused_reply.Statement.{statement}
+use Rattle.session.proofs.refused_reply.Tie as tie
+
+cast-t2 : tie.Need-cast-t2
+cast-t2 c = search needs
+
+returns : tie.Need-returns
+returns c = nameless (refusedBy (c .before .args .refusal)) refl
+
+pub refused-reply-spec : {M : Type 1} → statement M
+refused-reply-spec = tie.close (tie.spec cast-t2 returns)
