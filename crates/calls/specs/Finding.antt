@@ -23,6 +23,7 @@ use Rattle.view.specs.Disk.{Entry, used, formed, filesOf}
 use Rattle.image.specs.Image.{viewOf, filesIn, DiskRules}
 use Rattle.slots.specs.Keys.{Key, hasArea, hasKeys, keys-area}
 use Rattle.record.specs.Record.{Files, refuse, named, slotOf, judgeName}
+use Rattle.record.specs.Order.{order-illegal, order-missing, order-found}
 use Rattle.record.specs.declared.Judged.the-variants.{Grant}
 
 formed-area : (l : Layout) (e : Entry) → formed l e ≡ true → legalArea l (e .area) ≡ true
@@ -72,14 +73,11 @@ module _ (l : Layout) (right : LayoutRight l) (img : List ℕ) (rules : DiskRule
 
 module _ (l : Layout) (files : Files) (name : List ℕ) where
   pub judge-illegal : legalName l name ≡ false → refuse 11 0 ≡ judgeName l files name
-  unfolding judgeName
-  judge-illegal e = rw e refl
+  judge-illegal e = sym (order-illegal l files name e)
 
   module _ (legal : legalName l name ≡ true) {r : Lowest} (slot : r ≡ slotOf l files name) where
     pub judge-found : {s : ℕ} → r ≡ At s → Grant s ≡ judgeName l files name
-    unfolding judgeName
-    judge-found e = rw (legal, ← slot, e) refl
+    judge-found e = sym (order-found l files name legal (sym slot ∙ e))
 
     pub judge-none : r ≡ Nowhere → refuse 10 0 ≡ judgeName l files name
-    unfolding judgeName
-    judge-none e = rw (legal, ← slot, e) refl
+    judge-none e = sym (order-missing l files name legal (sym slot ∙ e))
