@@ -1,9 +1,9 @@
 -- The check's definitions in the steps in which the code takes them.
 -- Each step is a part of `rules` or of `checkHead`, cut out by name; a refusal or the next step by what a search found. Assumes nothing.
-use mathlib.Core.Path.{_≡_, refl, sym, ap, _∙_}
+use mathlib.Core.Path.{_≡_, refl, sym, _∙_}
 use mathlib.Core.Bool.{Bool, true, false}
 use mathlib.Core.List.{List}
-use mathlib.Core.Option.{Option, none, some}
+use mathlib.Core.Option.{none}
 use Prim.Native.Nat.{ℕ, _-_, _≤_, _<_, min}
 use native.Mathlib.Omega.{arith}
 use lib.Dec.{ltb, eqb}
@@ -28,9 +28,9 @@ use Rattle.view.specs.Disk.{View}
 use Rattle.laws.specs.declared.Refusal.{Refusal}
 use Rattle.laws.specs.Refusals.{refusalAt}
 use Rattle.view.specs.Rules.{orFail, walkOf, broken, sharing, stray, rules, badSystem, malformed, repeated}
-use Rattle.rules.specs.declared.Checked.{Checked}
 use Rattle.rules.specs.declared.Checked.the-variants.{Accepted, Refused}
-use Rattle.rules.specs.Check.{orRefused, densityOf, hasIdentity, kindOf, usedCount, checkAs, checkHead, checkStart}
+use Rattle.rules.specs.Check.{densityOf, hasIdentity, kindOf, usedCount, checkAs, checkKinds, checkHead, checkStart}
+use Rattle.rules.specs.Steps.{kinds-none, kinds-some, as-passed, as-failed}
 use Rattle.rules.specs.Head.{head-holds}
 use Rattle.image.specs.Image.{viewOf}
 
@@ -42,10 +42,6 @@ chainRules l v =
     (orFail (λ s. 8) (lowest (sharing l v) 0 (l .slots))
     (orFail (λ b. 9) (lowest (stray l v) (l .first) (l .blocks - l .first))
     Pass))
-
--- Refusal 2, then those of the kind.
-unfoldable pub checkKinds : Density → (ℕ → ℕ) → Checked
-checkKinds d b = orRefused (kindOf d b) 2 (λ k. checkAs k d b)
 
 -- ---- refusals 6 to 9, r being what the code's pass found
 
@@ -120,32 +116,24 @@ module _ (k : Kind) (d : Density) {l : Layout} (made : l ≡ layoutOf k d) where
   -- the check's answer by the rules'
   module _ (b : ℕ → ℕ) {r : Ruled} (ruled : r ≡ rules l (viewOf l b)) where
     pub as-pass : {files free : ℕ} → r ≡ Pass → files ≡ usedCount l (viewOf l b) → free ≡ freeCount l (mapAt b) → Accepted k d files free ≡ checkAs k d b
-    unfolding checkAs
-    as-pass t f n = rw (← made, ← ruled, t, f, n) refl
+    as-pass t f n = rw (f, n, made) (sym (as-passed b d k (rw made at (sym ruled ∙ t))))
 
     pub as-fail : {w : Refusal} → r ≡ Fail w → Refused w ≡ checkAs k d b
-    unfolding checkAs
-    as-fail t = rw (← made, ← ruled, t) refl
-
-kind-by : (t u : Bool) (d : Density) (b : ℕ → ℕ) → hasIdentity (layoutOf S900 d) b ≡ t → hasIdentity (layoutOf S1000 d) b ≡ u
-    → kindOf d b ≡ pick t (some S900) (pick u (some S1000) none)
-unfolding kindOf
-kind-by t u d b p q = rw (p, q) refl
+    as-fail t = sym (as-failed b d k (rw made at (sym ruled ∙ t)))
 
 module _ (d : Density) (b : ℕ → ℕ) where
-  kinds-are : {k : Option Kind} → kindOf d b ≡ k → orRefused k 2 (λ j. checkAs j d b) ≡ checkKinds d b
-  unfolding checkKinds
-  kinds-are e = ap (λ (k : Option Kind). orRefused k 2 (λ j. checkAs j d b)) (sym e)
-
   pub kinds-900 : {r : Bool} → r ≡ hasIdentity (layoutOf S900 d) b → r ≡ true → checkAs S900 d b ≡ checkKinds d b
-  kinds-900 e t = kinds-are (kind-by true (hasIdentity (layoutOf S1000 d) b) d b (sym e ∙ t) refl)
+  unfolding kindOf
+  kinds-900 e t = sym (kinds-some b d (rw (sym e ∙ t) refl))
 
   module _ {r : Bool} (e : r ≡ hasIdentity (layoutOf S900 d) b) (t : r ≡ false) {q : Bool} (f : q ≡ hasIdentity (layoutOf S1000 d) b) where
     pub kinds-1000 : q ≡ true → checkAs S1000 d b ≡ checkKinds d b
-    kinds-1000 u = kinds-are (kind-by false true d b (sym e ∙ t) (sym f ∙ u))
+    unfolding kindOf
+    kinds-1000 u = sym (kinds-some b d (rw (sym e ∙ t, sym f ∙ u) refl))
 
-    pub kinds-none : q ≡ false → Refused (refusalAt 2 0) ≡ checkKinds d b
-    kinds-none u = kinds-are (kind-by false false d b (sym e ∙ t) (sym f ∙ u))
+    pub kinds-neither : q ≡ false → Refused (refusalAt 2 0) ≡ checkKinds d b
+    unfolding kindOf
+    kinds-neither u = sym (kinds-none b d (rw (sym e ∙ t, sym f ∙ u) refl))
 
 module _ (head : List ℕ) (size : ℕ) where
   none-by : (t u : Bool) → eqb size (lengthOf Low) ≡ t → eqb size (lengthOf High) ≡ u → size < 5120 → densityOf size ≡ none
@@ -163,11 +151,11 @@ module _ (head : List ℕ) (size : ℕ) where
 
   module _ (long : 5120 ≤ length head) where
     pub start-low : size ≡ lengthOf Low → checkKinds Low (bytes head) ≡ checkStart head size
-    unfolding checkStart checkKinds
+    unfolding checkStart
     start-low e = rw (le-ltb (length head) (min size 5120) (omega arith), eq-eqb size (lengthOf Low) e) refl
 
     pub start-high : size ≡ lengthOf High → checkKinds High (bytes head) ≡ checkStart head size
-    unfolding checkStart checkKinds
+    unfolding checkStart
     start-high e =
         rw (le-ltb (length head) (min size 5120) (omega arith), ne-eqb size (lengthOf Low) (λ z. omega arith), eq-eqb size (lengthOf High) e) refl
 

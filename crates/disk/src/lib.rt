@@ -7,8 +7,8 @@ ghost use Rattle.layout.specs.Layouts.{blockOffset};
 ghost use Rattle.layout.specs.Right.{LayoutRight};
 ghost use Rattle.view.specs.Rules.{rules};
 ghost use Rattle.image.specs.Image.{viewOf};
-ghost use Rattle.rules.specs.Check.{checkAs, checkOf, checkStart};
-ghost use Rattle.disk.specs.Steps.{chainRules, checkKinds};
+ghost use Rattle.rules.specs.Check.{checkAs, checkKinds, checkOf, checkStart};
+ghost use Rattle.disk.specs.Steps.{chainRules};
 
 // Refusals 6 to 9: the chains, then what they share, then blocks on none of them.
 fn chain_rules(head: &[u8], layout: layout::Layout) -> view::Ruled

@@ -11,7 +11,7 @@ use lib.Seq.{drop-cons}
 use lib.Dec.{eqb}
 use borrow.Author.Tests.{eqb-true, eq-eqb}
 use Rattle.laws.specs.Truth.{pick, both, both-true, true-both, clash}
-use Rattle.laws.specs.Member.{In, has, in-has, out-has}
+use Rattle.laws.specs.Member.{In, has, has-in, in-has, out-has}
 
 -- every element passes the test
 unfoldable pub allOf : (ℕ → Bool) → List ℕ → Bool
@@ -75,3 +75,12 @@ pub of-apart : (xs ys : List ℕ) → ((y : ℕ) → In y ys → In y xs → ⊥
 unfolding meets
 of-apart xs [] h = refl
 of-apart xs (z ∷ ys) h = rw (out-has xs z (h z (inl refl))) (of-apart xs ys (λ y i. h y (inr i)))
+
+pub meeting : (xs ys : List ℕ) → meets xs ys ≡ true → (y : ℕ) × In y ys × In y xs
+unfolding meets
+meeting xs [] e = absurd (true≢false (sym e))
+meeting xs (z ∷ ys) e = go (meeting xs ys) (has xs z) refl
+  where
+    go : (meets xs ys ≡ true → (y : ℕ) × In y ys × In y xs) → (t : Bool) → has xs z ≡ t → (y : ℕ) × In y (z ∷ ys) × In y xs
+    go ih true p = (z, inl refl, has-in xs z p)
+    go ih false p = let r = ih (rw p at e) in (r .0, inr (r .1), r .2)

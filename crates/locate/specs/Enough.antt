@@ -38,7 +38,7 @@ use Rattle.rules.specs.declared.Checked.{Checked}
 use Rattle.rules.specs.declared.Checked.the-variants.{Accepted, Refused}
 use Rattle.rules.specs.Check.{checkOf, refusalOf, callOf}
 use Rattle.rules.specs.Accepted.{accepted-rules}
-use Rattle.rules.specs.Head.{head-holds, head-agree, head-decides, same-map, same-entry}
+use Rattle.rules.specs.Head.{Read, read-head, head-agree, head-decides, same-map, same-entry}
 use Rattle.calls.specs.Answers.{foundOf, foundBy, call-refused}
 use Rattle.calls.specs.Slots.{file-above, file-empty, file-used, file-length}
 use Rattle.calls.specs.Done.{list-done, find-done, page-done}
@@ -89,8 +89,11 @@ module _ (x y : List ℕ) (same : SameHead x y) where
     rules-y : DiskRules l y
     rules-y = accepted-rules k d f n y yes-y
 
+    agree : (i : ℕ) → Read l i → bytes y i ≡ bytes x i
+    agree i r = head-agree x y (same .head) i (read-head k d i r)
+
     entry-same : (s : ℕ) → s < l .slots → viewOf l (bytes y) .entry s ≡ viewOf l (bytes x) .entry s
-    entry-same = same-entry (bytes x) (bytes y) (head-agree x y (same .head)) l right (head-holds k d)
+    entry-same = same-entry (bytes x) (bytes y) l right agree
 
     chain-same : (s : ℕ) → s < l .slots → used (viewOf l (bytes x) .entry s) ≡ true
         → entryChain (mapAt (bytes y)) (viewOf l (bytes y) .entry s) ≡ entryChain (mapAt (bytes x)) (viewOf l (bytes x) .entry s)
@@ -100,7 +103,7 @@ module _ (x y : List ℕ) (same : SameHead x y) where
         let c = rules-x .valid .linked s (h, u) in
         rw (entry-same s h)
         (chain-cong (mapAt (bytes x)) (mapAt (bytes y)) (linksFor (e .size)) (e .start)
-        (λ b i. same-map (bytes x) (bytes y) (head-agree x y (same .head)) l right (head-holds k d) b (chain-data l right (mapAt (bytes x)) _ _ b c i .1)))
+        (λ b i. same-map (bytes x) (bytes y) l right agree b (chain-data l right (mapAt (bytes x)) _ _ b c i .1)))
 
     blocks-by : (s : ℕ) → Dec (s < l .slots) → (u : Bool) → used (viewOf l (bytes x) .entry s) ≡ u → fileBlocks l y s ≡ fileBlocks l x s
     unfolding fileBlocks chainOf

@@ -3,6 +3,7 @@
 use mathlib.Core.Path.{_≡_}
 use mathlib.Core.Bool.{Bool, true, false}
 use mathlib.Core.List.{List, [], _∷_}
+use mathlib.Core.Logic.{_⊎_}
 use Prim.Native.Nat.{ℕ, zero, suc, _-_, _≤_, _<_}
 use lib.Dec.{leb, ltb, eqb}
 use lib.ListN.{length, take, getD, set}
@@ -42,6 +43,16 @@ chain m (suc links) block = block ∷ chain m links (m block)
 unfoldable pub Chained : Layout → (ℕ → ℕ) → ℕ → ℕ → Type 0
 Chained l m zero block = Data l block × (m block ≡ l .mark)
 Chained l m (suc links) block = Data l block × Chained l m links (m block)
+
+-- Its faults, on the way from the start. Refusal 6: the start, or before the last block a value that isn't the end mark, is no link.
+unfoldable pub Astray : Layout → (ℕ → ℕ) → ℕ → ℕ → Type 0
+Astray l m zero block = Data l block → ⊥
+Astray l m (suc links) block = (Data l block → ⊥) ⊎ (Data l block × (m block ≡ l .mark → ⊥) × Astray l m links (m block))
+
+-- Refusal 7: the end mark before the last block, or anything else at it.
+unfoldable pub Miscounted : Layout → (ℕ → ℕ) → ℕ → ℕ → Type 0
+Miscounted l m zero block = Data l block × (m block ≡ l .mark → ⊥)
+Miscounted l m (suc links) block = Data l block × ((m block ≡ l .mark) ⊎ Miscounted l m links (m block))
 
 -- The same walked from the start to the first fault. A start or a value that is no link is Bad; the end mark too early, and
 -- anything else at the last block, is Cut.

@@ -1,18 +1,19 @@
--- A walk is whole exactly on a faultless chain, depends on the map's values of blocks only, and goes step by step as code does.
+-- A walk is whole exactly on a faultless chain, else it names the chain's fault; it depends on the map's values of blocks only, and goes step by step as code does.
 -- By cases on the walk's two tests. Assumes nothing.
 use mathlib.Core.Path.{_≡_, refl, sym}
 use mathlib.Core.Bool.{Bool, true, false, true≢false}
+use mathlib.Core.Logic.{_⊎_, inl, inr}
 use Prim.Native.Nat.{ℕ, zero, suc, _-_, _<_}
 use native.Mathlib.Numerals.{sub-one}
 use native.Mathlib.Omega.{arith}
 use lib.Dec.{leb, ltb, eqb}
-use borrow.Author.Tests.{eqb-true, eq-eqb, ne-eqb, leb-true, ltb-true, le-leb, lt-ltb}
-use Rattle.laws.specs.Truth.{pick, both-true, true-both}
+use borrow.Author.Tests.{eqb-true, eqb-false, eq-eqb, ne-eqb, leb-true, ltb-true, le-leb, lt-ltb}
+use Rattle.laws.specs.Truth.{pick, both-true, true-both, clash, false-if}
 use Rattle.layout.specs.declared.Layout.{Layout}
 use Rattle.layout.specs.Right.{LayoutRight}
 use Rattle.map.specs.declared.Walk.{Walk}
 use Rattle.map.specs.declared.Walk.the-variants.{Whole, Bad, Cut}
-use Rattle.map.specs.Map.{Data, Chained, isLink, walk, isWhole}
+use Rattle.map.specs.Map.{Data, Chained, Astray, Miscounted, isLink, walk, isWhole}
 use Rattle.map.specs.Chains.{chained-first}
 
 -- ---- links
@@ -32,21 +33,41 @@ whole-is Whole e = refl
 whole-is Bad e = absurd (true≢false (sym e))
 whole-is Cut e = absurd (true≢false (sym e))
 
-last-of : (t u : Bool) → pick t (pick u Whole Cut) Bad ≡ Whole → (t ≡ true) × (u ≡ true)
-last-of true true e = (refl, refl)
-last-of true false e = (cc, cc)
-last-of false u e = (cc, cc)
+-- what a walk's end says of the chain
+abbrev Says : Layout → (ℕ → ℕ) → ℕ → ℕ → Walk → Type 0
+Says l m k b Whole = Chained l m k b
+Says l m k b Bad = Astray l m k b
+Says l m k b Cut = Miscounted l m k b
 
-next-of : (t u : Bool) (w : Walk) → pick t (pick u Cut w) Bad ≡ Whole → (t ≡ true) × (w ≡ Whole)
-next-of true true w e = (cc, cc)
-next-of true false w e = (refl, e)
-next-of false u w e = (cc, cc)
+says-on : (l : Layout) (m : ℕ → ℕ) (k b : ℕ) (w : Walk) → Data l b → (m b ≡ l .mark → ⊥) → Says l m k (m b) w → Says l m (suc k) b w
+unfolding Chained Astray Miscounted
+says-on l m k b Whole d n s = (d, s)
+says-on l m k b Bad d n s = inr (d, n, s)
+says-on l m k b Cut d n s = (d, inr s)
+
+walk-says : (l : Layout) (m : ℕ → ℕ) (k b : ℕ) → Says l m k b (walk l m k b)
+unfolding walk Chained Astray Miscounted
+walk-says l m zero b = go (isLink l b) (eqb (m b) (l .mark)) refl refl
+  where
+    go : (t u : Bool) → isLink l b ≡ t → eqb (m b) (l .mark) ≡ u → Says l m zero b (pick t (pick u Whole Cut) Bad)
+    go false u e f = λ d. clash (data-link l b d) e
+    go true true e f = (link-data l b e, eqb-true (m b) (l .mark) f)
+    go true false e f = (link-data l b e, eqb-false (m b) (l .mark) f)
+walk-says l m (suc k) b = go (walk-says l m k (m b)) (isLink l b) (eqb (m b) (l .mark)) refl refl
+  where
+    go : Says l m k (m b) (walk l m k (m b)) → (t u : Bool) → isLink l b ≡ t → eqb (m b) (l .mark) ≡ u → Says l m (suc k) b (pick t (pick u Cut (walk l m k (m b))) Bad)
+    go ih false u e f = inl (λ d. clash (data-link l b d) e)
+    go ih true true e f = (link-data l b e, inl (eqb-true (m b) (l .mark) f))
+    go ih true false e f = says-on l m k b (walk l m k (m b)) (link-data l b e) (eqb-false (m b) (l .mark) f) ih
 
 pub walk-chained : (l : Layout) (m : ℕ → ℕ) (k b : ℕ) → walk l m k b ≡ Whole → Chained l m k b
-unfolding walk Chained
-walk-chained l m zero b e = let p = last-of (isLink l b) (eqb (m b) (l .mark)) e in (link-data l b (p .0), eqb-true (m b) (l .mark) (p .1))
-walk-chained l m (suc k) b e =
-    let p = next-of (isLink l b) (eqb (m b) (l .mark)) (walk l m k (m b)) e in (link-data l b (p .0), walk-chained l m k (m b) (p .1))
+walk-chained l m k b e = rw e at (walk-says l m k b)
+
+pub walk-astray : (l : Layout) (m : ℕ → ℕ) (k b : ℕ) → walk l m k b ≡ Bad → Astray l m k b
+walk-astray l m k b e = rw e at (walk-says l m k b)
+
+pub walk-miscounted : (l : Layout) (m : ℕ → ℕ) (k b : ℕ) → walk l m k b ≡ Cut → Miscounted l m k b
+walk-miscounted l m k b e = rw e at (walk-says l m k b)
 
 pub chained-walk : (l : Layout) → LayoutRight l → (m : ℕ → ℕ) (k b : ℕ) → Chained l m k b → walk l m k b ≡ Whole
 unfolding walk Chained
@@ -54,6 +75,31 @@ chained-walk l right m zero b c = rw (data-link l b (c .0), eq-eqb (m b) (l .mar
 chained-walk l right m (suc k) b c =
     let d = chained-first l m k (m b) (c .1) in
     rw (data-link l b (c .0), ne-eqb (m b) (l .mark) (λ e. omega (arith, d .1, right .mark-out))) (chained-walk l right m k (m b) (c .1))
+
+no-link : (l : Layout) (b : ℕ) → (Data l b → ⊥) → isLink l b ≡ false
+no-link l b n = false-if (isLink l b) (λ e. n (link-data l b e))
+
+pub astray-walk : (l : Layout) (m : ℕ → ℕ) (k b : ℕ) → Astray l m k b → walk l m k b ≡ Bad
+unfolding walk Astray
+astray-walk l m zero b n = rw (no-link l b n) refl
+astray-walk l m (suc k) b (inl n) = rw (no-link l b n) refl
+astray-walk l m (suc k) b (inr a) = rw (data-link l b (a .0), ne-eqb (m b) (l .mark) (a .1)) (astray-walk l m k (m b) (a .2))
+
+miscounted-first : (l : Layout) (m : ℕ → ℕ) (k b : ℕ) → Miscounted l m k b → Data l b
+unfolding Miscounted
+miscounted-first l m zero b c = c .0
+miscounted-first l m (suc k) b c = c .0
+
+pub miscounted-walk : (l : Layout) → LayoutRight l → (m : ℕ → ℕ) (k b : ℕ) → Miscounted l m k b → walk l m k b ≡ Cut
+unfolding walk Miscounted
+miscounted-walk l right m zero b c = rw (data-link l b (c .0), ne-eqb (m b) (l .mark) (c .1)) refl
+miscounted-walk l right m (suc k) b c = go (miscounted-walk l right m k (m b)) (c .1)
+  where
+    go : (Miscounted l m k (m b) → walk l m k (m b) ≡ Cut) → (m b ≡ l .mark) ⊎ Miscounted l m k (m b) → pick (isLink l b) (pick (eqb (m b) (l .mark)) Cut (walk l m k (m b))) Bad ≡ Cut
+    go ih (inl e) = rw (data-link l b (c .0), eq-eqb (m b) (l .mark) e) refl
+    go ih (inr a) =
+        let d = miscounted-first l m k (m b) a in
+        rw (data-link l b (c .0), ne-eqb (m b) (l .mark) (λ e. omega (arith, d .1, right .mark-out))) (ih a)
 
 -- ---- maps that agree on all blocks
 

@@ -11,6 +11,7 @@ use lib.Dec.{eqb}
 use lib.ListN.{length}
 use borrow.Author.Tests.{eqb-true, eq-eqb, ne-eqb}
 use Rattle.laws.specs.Truth.{pick}
+use Rattle.laws.specs.declared.Refusal.{Refusal}
 use Rattle.laws.specs.Scan.{all→, →all, count-cong}
 use Rattle.laws.specs.Reader.{bytes}
 use Rattle.layout.specs.declared.Kind.{Kind}
@@ -24,13 +25,15 @@ use Rattle.map.specs.Map.{mapAt, freeCount}
 use Rattle.view.specs.Disk.{used, filesOf}
 use Rattle.view.specs.declared.Ruled.{Ruled}
 use Rattle.view.specs.declared.Ruled.the-variants.{Pass, Fail}
-use Rattle.view.specs.Rules.{rules, passed-valid, valid-passed}
+use Rattle.view.specs.Rules.{rules}
+use Rattle.view.specs.Exactly.{passed-valid, valid-passed}
 use Rattle.image.specs.Image.{identityAt, viewOf, filesIn, DiskRules}
 use Rattle.record.specs.Record.{isEmpty, fileCount}
 use Rattle.record.specs.Update.{empty-used}
 use Rattle.rules.specs.declared.Checked.{Checked}
-use Rattle.rules.specs.declared.Checked.the-variants.{Accepted}
-use Rattle.rules.specs.Check.{orRefused, densityOf, hasIdentity, kindOf, usedCount, orFault, checkAs, checkOf, checkHead}
+use Rattle.rules.specs.declared.Checked.the-variants.{Accepted, Refused}
+use Rattle.rules.specs.Check.{densityOf, hasIdentity, kindOf, usedCount, checkAs, checkOf}
+use Rattle.rules.specs.Steps.{head-none, head-some, kinds-none, kinds-some, as-passed, as-failed}
 
 -- The check's answer for an image that meets the rules.
 abbrev pub acceptedAs : Kind → Density → List ℕ → Checked
@@ -44,7 +47,7 @@ length-of S900 High = refl
 length-of S1000 Low = refl
 length-of S1000 High = refl
 
-density-is : (n : ℕ) (d : Density) → densityOf n ≡ some d → n ≡ lengthOf d
+pub density-is : (n : ℕ) (d : Density) → densityOf n ≡ some d → n ≡ lengthOf d
 unfolding densityOf
 density-is n d e = go (eqb n (lengthOf Low)) (eqb n (lengthOf High)) refl refl d e
   where
@@ -55,7 +58,7 @@ density-is n d e = go (eqb n (lengthOf Low)) (eqb n (lengthOf High)) refl refl d
     go false true p q High e = eqb-true n (lengthOf High) q
     go false false p q d e = absurd (let z : _≡_ {A = ℕ} 0 1 = cc in omega arith)
 
-is-density : (n : ℕ) (d : Density) → n ≡ lengthOf d → densityOf n ≡ some d
+pub is-density : (n : ℕ) (d : Density) → n ≡ lengthOf d → densityOf n ≡ some d
 unfolding densityOf
 is-density n Low e = rw (eq-eqb n (lengthOf Low) e) refl
 is-density n High e = rw (ne-eqb n (lengthOf Low) (λ z. omega arith), eq-eqb n (lengthOf High) e) refl
@@ -63,7 +66,7 @@ is-density n High e = rw (ne-eqb n (lengthOf Low) (λ z. omega arith), eq-eqb n 
 -- ---- the identities
 
 -- every slot has the kind's identity
-abbrev Identified : Kind → Density → (ℕ → ℕ) → Type 0
+abbrev pub Identified : Kind → Density → (ℕ → ℕ) → Type 0
 Identified k d b = (s : ℕ) → s < layoutOf k d .slots → identityAt (layoutOf k d) b s ≡ layoutOf k d .identity
 
 kind-identified : (k : Kind) (d : Density) (b : ℕ → ℕ) → hasIdentity (layoutOf k d) b ≡ true → Identified k d b
@@ -86,7 +89,7 @@ not-900 d b h = go (hasIdentity (layoutOf S900 d) b) refl
     go true e = absurd (omega (arith, kind-identified S900 d b e 0 (omega arith), h 0 (omega arith)))
     go false e = e
 
-kind-is : (d : Density) (b : ℕ → ℕ) (k : Kind) → kindOf d b ≡ some k → Identified k d b
+pub kind-is : (d : Density) (b : ℕ → ℕ) (k : Kind) → kindOf d b ≡ some k → Identified k d b
 unfolding kindOf
 kind-is d b k e = go (hasIdentity (layoutOf S900 d) b) (hasIdentity (layoutOf S1000 d) b) refl refl k e
   where
@@ -97,7 +100,7 @@ kind-is d b k e = go (hasIdentity (layoutOf S900 d) b) (hasIdentity (layoutOf S1
     go false true p q S1000 e = kind-identified S1000 d b q
     go false false p q k e = absurd (let z : _≡_ {A = ℕ} 0 1 = cc in omega arith)
 
-is-kind : (d : Density) (b : ℕ → ℕ) (k : Kind) → Identified k d b → kindOf d b ≡ some k
+pub is-kind : (d : Density) (b : ℕ → ℕ) (k : Kind) → Identified k d b → kindOf d b ≡ some k
 unfolding kindOf
 is-kind d b S900 h = rw (identified-kind S900 d b h) refl
 is-kind d b S1000 h = rw (not-900 d b h, identified-kind S1000 d b h) refl
@@ -119,48 +122,38 @@ used-files l img =
 -- ---- what the check accepts
 
 pub rules-accepted : (k : Kind) (d : Density) (img : List ℕ) → DiskRules (layoutOf k d) img → checkOf img ≡ acceptedAs k d img
-unfolding checkHead
 rules-accepted k d img r =
-    rw (
-      is-density (length img) d (r .size ∙ length-of k d),
-      is-kind d (bytes img) k (r .kind),
-      valid-passed (layoutOf k d) (layout-right k d) (viewOf (layoutOf k d) (bytes img)) (r .valid),
-      ← used-files (layoutOf k d) img,
-    ) refl
+    head-some (bytes img) (length img) (is-density (length img) d (r .size ∙ length-of k d))
+    ∙ kinds-some (bytes img) d (is-kind d (bytes img) k (r .kind))
+    ∙ as-passed (bytes img) d k (valid-passed (layoutOf k d) (viewOf (layoutOf k d) (bytes img)) (layout-right k d) (r .valid))
+    ∙ rw (used-files (layoutOf k d) img) refl
 
--- the check's answer of a kind and a density
-as-is : (k j : Kind) (d c : Density) (b : ℕ → ℕ) (f n : ℕ) → checkAs k d b ≡ Accepted j c f n
-    → (k ≡ j) × (d ≡ c) × (rules (layoutOf k d) (viewOf (layoutOf k d) b) ≡ Pass) × (usedCount (layoutOf k d) (viewOf (layoutOf k d) b) ≡ f) × (freeCount (layoutOf k d) (mapAt b) ≡ n)
-unfolding checkAs
-as-is k j d c b f n e = go (rules (layoutOf k d) (viewOf (layoutOf k d) b)) refl e
-  where
-    go : (r : Ruled) → rules (layoutOf k d) (viewOf (layoutOf k d) b) ≡ r
-        → orFault r (Accepted k d (usedCount (layoutOf k d) (viewOf (layoutOf k d) b)) (freeCount (layoutOf k d) (mapAt b))) ≡ Accepted j c f n
-        → (k ≡ j) × (d ≡ c) × (rules (layoutOf k d) (viewOf (layoutOf k d) b) ≡ Pass) × (usedCount (layoutOf k d) (viewOf (layoutOf k d) b) ≡ f) × (freeCount (layoutOf k d) (mapAt b) ≡ n)
-    go Pass p q = (cc, cc, p, cc, cc)
-    go (Fail r) p q = absurd (let z : _≡_ {A = ℕ} 0 1 = cc in omega arith)
+refused-accepted : {A : Type 0} {r : Refusal} {k : Kind} {d : Density} {f n : ℕ} → Refused r ≡ Accepted k d f n → A
+refused-accepted e = absurd (let z : _≡_ {A = ℕ} 0 1 = cc in omega arith)
+
+-- an image of a kind and a density that the check accepts keeps their rules
+rules-by : (k : Kind) (d : Density) (img : List ℕ) → length img ≡ lengthOf d → Identified k d (bytes img) → (w : Ruled) → rules (layoutOf k d) (viewOf (layoutOf k d) (bytes img)) ≡ w
+    → (j : Kind) (c : Density) (f n : ℕ) → checkAs k d (bytes img) ≡ Accepted j c f n → DiskRules (layoutOf j c) img
+rules-by k d img size kind Pass p j c f n e =
+    let q = sym (as-passed (bytes img) d k p) ∙ e in
+    let u : k ≡ j = cc in
+    let v : d ≡ c = cc in
+    let r : DiskRules (layoutOf k d) img = record { size = size ∙ sym (length-of k d); kind = kind; valid = passed-valid (layoutOf k d) (viewOf (layoutOf k d) (bytes img)) (layout-right k d) p } in
+    rw (u, v) at r
+rules-by k d img size kind (Fail r) p j c f n e = refused-accepted (sym (as-failed (bytes img) d k p) ∙ e)
 
 pub accepted-rules : (k : Kind) (d : Density) (f n : ℕ) (img : List ℕ) → checkOf img ≡ Accepted k d f n → DiskRules (layoutOf k d) img
-unfolding checkHead
-accepted-rules k d f n img e = go (densityOf (length img)) refl e
+accepted-rules k d f n img e = go (densityOf (length img)) refl
   where
-    kind-by : (c : Density) → densityOf (length img) ≡ some c → (y : Option Kind) → kindOf c (bytes img) ≡ y → orRefused y 2 (λ j. checkAs j c (bytes img)) ≡ Accepted k d f n → DiskRules (layoutOf k d) img
-    kind-by c p none q r = absurd (let z : _≡_ {A = ℕ} 0 1 = cc in omega arith)
-    kind-by c p (some j) q r =
-        let w = as-is j k c d (bytes img) f n r in
-        let u : j ≡ k = w .0 in
-        let v : c ≡ d = w .1 in
-        let a : rules (layoutOf k d) (viewOf (layoutOf k d) (bytes img)) ≡ Pass = rw (u, v) at (w .2) in
-        let i : kindOf d (bytes img) ≡ some k = ap (λ (x : Density). kindOf x (bytes img)) (sym v) ∙ q ∙ ap some u in
-        record {
-          size = density-is (length img) d (p ∙ ap some v) ∙ sym (length-of k d);
-          kind = kind-is d (bytes img) k i;
-          valid = passed-valid (layoutOf k d) (viewOf (layoutOf k d) (bytes img)) a;
-        }
+    by-kind : (c : Density) → densityOf (length img) ≡ some c → (y : Option Kind) → kindOf c (bytes img) ≡ y → DiskRules (layoutOf k d) img
+    by-kind c p none q = refused-accepted (sym (head-some (bytes img) (length img) p ∙ kinds-none (bytes img) c q) ∙ e)
+    by-kind c p (some j) q =
+        rules-by j c img (density-is (length img) c p) (kind-is c (bytes img) j q) (rules (layoutOf j c) (viewOf (layoutOf j c) (bytes img))) refl k d f n
+        (sym (head-some (bytes img) (length img) p ∙ kinds-some (bytes img) c q) ∙ e)
 
-    go : (x : Option Density) → densityOf (length img) ≡ x → orRefused x 1 (λ c. orRefused (kindOf c (bytes img)) 2 (λ j. checkAs j c (bytes img))) ≡ Accepted k d f n → DiskRules (layoutOf k d) img
-    go none p r = absurd (let z : _≡_ {A = ℕ} 0 1 = cc in omega arith)
-    go (some c) p r = kind-by c p (kindOf c (bytes img)) refl r
+    go : (x : Option Density) → densityOf (length img) ≡ x → DiskRules (layoutOf k d) img
+    go none p = refused-accepted (sym (head-none (bytes img) (length img) p) ∙ e)
+    go (some c) p = by-kind c p (kindOf c (bytes img)) refl
 
 -- demand 2: accepted exactly when the disk rules hold
 pub accepted : (k : Kind) (d : Density) (img : List ℕ) → (checkOf img ≡ acceptedAs k d img) ↔ DiskRules (layoutOf k d) img

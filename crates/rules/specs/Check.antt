@@ -1,5 +1,6 @@
 -- The check over a length and a reader of bytes: refusals 1 to 9 in document 01's order ("The numbers given back"), and the meaning of
 -- every public call on any bytes: the check first. Assumes nothing.
+use mathlib.Core.Path.{_≡_}
 use mathlib.Core.Bool.{Bool}
 use mathlib.Core.List.{List, []}
 use mathlib.Core.Option.{Option, none, some}
@@ -62,9 +63,15 @@ checkAs k d b =
     let l = layoutOf k d in
     orFault (rules l (viewOf l b)) (Accepted k d (usedCount l (viewOf l b)) (freeCount l (mapAt b)))
 
+-- 2, then those of the kind.
+unfoldable pub checkKinds : Density → (ℕ → ℕ) → Checked
+unfolding kindOf checkAs
+checkKinds d b = orRefused (kindOf d b) 2 (λ k. checkAs k d b)
+
+-- 1, then those of the density.
 unfoldable pub checkHead : ℕ → (ℕ → ℕ) → Checked
-unfolding densityOf kindOf checkAs
-checkHead length b = orRefused (densityOf length) 1 (λ d. orRefused (kindOf d b) 2 (λ k. checkAs k d b))
+unfolding densityOf checkKinds
+checkHead length b = orRefused (densityOf length) 1 (λ d. checkKinds d b)
 
 -- The check of an image.
 abbrev pub checkOf : List ℕ → Checked
@@ -96,8 +103,12 @@ lent (page s offset out) = out
 lent (put name type content) = []
 lent (remove name) = []
 
+-- What a call comes to: its answer, the lent output afterwards, the image afterwards.
+abbrev pub came : Answer → List ℕ → List ℕ → Outcome (List ℕ)
+came answer output img = record { answer = answer; output = output; state = img }
+
 abbrev pub callBy : Checked → List ℕ → Call → Outcome (List ℕ)
-callBy (Refused r) img c = record { answer = refusedBy r; output = lent c; state = img }
+callBy (Refused r) img c = came (refusedBy r) (lent c) img
 callBy (Accepted k d files free) img c = stepImage (shapeOf k d) img c
 
 -- A call on any bytes: a refused image answers the check's refusal and keeps image and output; on an accepted one the answer and the
@@ -105,3 +116,7 @@ callBy (Accepted k d files free) img c = stepImage (shapeOf k d) img c
 unfoldable pub callOf : List ℕ → Call → Outcome (List ℕ)
 unfolding checkHead stepImage
 callOf img c = callBy (checkOf img) img c
+
+-- A call was made: answer, output and image afterwards are those of `callOf`.
+abbrev pub Made : List ℕ → Call → Answer → List ℕ → List ℕ → Type 0
+Made img c answer output after = came answer output after ≡ callOf img c

@@ -3,15 +3,17 @@
 use mathlib.Core.Path.{_≡_, refl}
 use mathlib.Core.Bool.{Bool, true, false}
 use mathlib.Core.List.{List}
+use mathlib.Core.Option.{Option, none, some}
 use Prim.Native.Nat.{ℕ}
 use native.Mathlib.Omega.{arith}
 use lib.Dec.{eqb}
 use lib.ListN.{getD, drop}
+use Rattle.laws.specs.declared.Refusal.{Refusal}
 use Rattle.laws.specs.Reader.{bytes}
 use Rattle.blocks.specs.Numbers.{number, digits}
-use Rattle.record.specs.Record.{Call}
+use Rattle.record.specs.Record.{Call, numberIn, placeOr}
 use Rattle.rules.specs.Check.{callOf}
-use Rattle.rules.specs.Small.{Small, call-small}
+use Rattle.rules.specs.Small.{Small, NumberedIn, call-small}
 use Rattle.session.specs.Script.{replyOf, flag, replyBytes}
 use Rattle.session.specs.declared.Reply.{Reply}
 
@@ -31,6 +33,14 @@ read-back r h k =
     let v : number 3 (bytes (replyBytes r)) 3 ≡ r .value = omega arith in
     rw (n, v, flag-back (r .end)) refl
 
+told-small : (w : Option Refusal) (value : ℕ) → NumberedIn w → Small value → Small (numberIn w) × Small (placeOr w value)
+told-small none value n h = (omega arith, h)
+told-small (some r) value n h = (omega (arith, n .most), n .place)
+
 -- What is written of any call on any image reads back.
 pub reply-back : (img : List ℕ) (c : Call) → readReply (replyBytes (replyOf (callOf img c .answer))) ≡ replyOf (callOf img c .answer)
-reply-back img c = let h = call-small img c in read-back (replyOf (callOf img c .answer)) (h .0) (h .1)
+reply-back img c =
+    let a = callOf img c .answer in
+    let h = call-small img c in
+    let w = told-small (a .refusal) (a .value) (h .refusal) (h .value) in
+    read-back (replyOf a) (w .0) (w .1)

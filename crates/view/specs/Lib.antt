@@ -2,6 +2,8 @@ pub mod Disk
 pub mod Kept
 pub mod Counting
 pub mod Rules
+pub mod Broken
+pub mod Exactly
 pub mod Head
 pub mod Remove
 pub mod Put

@@ -8,7 +8,7 @@ use Rattle.layout.specs.declared.Kind.the-variants.{S900, S1000}
 use Rattle.layout.specs.declared.Layout.{Layout}
 use Rattle.layout.specs.Layouts.{layoutOf}
 use Rattle.rules.specs.Check.{hasIdentity}
-use Rattle.disk.specs.Steps.{directory-held, kinds-900, kinds-1000, kinds-none}
+use Rattle.disk.specs.Steps.{directory-held, kinds-900, kinds-1000, kinds-neither}
 use Rattle.disk.proofs.check_kinds.Statement.{statement}
 use Rattle.disk.proofs.check_kinds.Tie as tie
 
@@ -57,7 +57,7 @@ returns-3 : tie.Need-returns-3
 returns-3 c =
     let h = c .before in
     let g = h .before .before .before in
-    kinds-none _ _ (first g) (h .before .before .if1 .left) (second h) (c .if2 .left)
+    kinds-neither _ _ (first g) (h .before .before .if1 .left) (second h) (c .if2 .left)
 
 pub check-kinds-spec : {M : Type 1} → statement M
 check-kinds-spec =

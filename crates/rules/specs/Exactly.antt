@@ -1,0 +1,80 @@
+-- When the check refuses an image, and by which number at which place: exactly as document 01's table says ("The numbers given back").
+-- The density and the kind first, then the cascade of the disk rules. Assumes nothing.
+use mathlib.Core.Path.{_≡_, refl, sym, ap, _∙_}
+use mathlib.Core.List.{List}
+use mathlib.Core.Option.{Option, none, some}
+use mathlib.Core.Logic.{_↔_}
+use Prim.Native.Nat.{ℕ}
+use native.Mathlib.Omega.{arith}
+use lib.ListN.{length}
+use Rattle.laws.specs.declared.Refusal.{Refusal}
+use Rattle.laws.specs.Refusals.{refusalAt}
+use Rattle.laws.specs.Reader.{bytes}
+use Rattle.layout.specs.declared.Kind.{Kind}
+use Rattle.layout.specs.declared.Density.{Density}
+use Rattle.layout.specs.Layouts.{layoutOf, lengthOf}
+use Rattle.layout.specs.Right.{layout-right}
+use Rattle.view.specs.declared.Ruled.{Ruled}
+use Rattle.view.specs.declared.Ruled.the-variants.{Pass, Fail}
+use Rattle.view.specs.Rules.{rules}
+use Rattle.view.specs.Broken.{Due}
+use Rattle.view.specs.Exactly.{refused-due}
+use Rattle.image.specs.Image.{viewOf}
+use Rattle.rules.specs.declared.Checked.the-variants.{Refused}
+use Rattle.rules.specs.Check.{densityOf, kindOf, checkAs, checkKinds, checkOf}
+use Rattle.rules.specs.Steps.{head-none, head-some, kinds-none, kinds-some, as-passed, as-failed}
+use Rattle.rules.specs.Accepted.{Identified, density-is, is-density, kind-is, is-kind}
+
+-- A refusal is due to an image.
+pub data Owed (img : List ℕ) : Refusal → Type 0 where
+  -- 1: its length is neither of the two
+  no-density : ((d : Density) → length img ≡ lengthOf d → ⊥) → Owed img (refusalAt 1 0)
+  -- 2: its length is, and its slots' identities are those of no kind
+  no-kind : (d : Density) → length img ≡ lengthOf d → ((k : Kind) → Identified k d (bytes img) → ⊥) → Owed img (refusalAt 2 0)
+  -- 3 to 9: length and identities are those of a kind and a density, and a rule of theirs is broken
+  by-rule : (k : Kind) (d : Density) {r : Refusal} → length img ≡ lengthOf d → Identified k d (bytes img) → Due (layoutOf k d) (viewOf (layoutOf k d) (bytes img)) r → Owed img r
+
+none-some : {A : Type 0} {x : A} → none ≡ some x → ⊥
+none-some e = let z : _≡_ {A = ℕ} 0 1 = cc in omega arith
+
+refusal-is : {q r : Refusal} → Refused q ≡ Refused r → q ≡ r
+refusal-is e = cc
+
+module _ (img : List ℕ) (r : Refusal) where
+  by-rules : (k : Kind) (d : Density) → length img ≡ lengthOf d → Identified k d (bytes img) → (w : Ruled) → rules (layoutOf k d) (viewOf (layoutOf k d) (bytes img)) ≡ w
+      → checkAs k d (bytes img) ≡ Refused r → Owed img r
+  by-rules k d size kind Pass p e = let q = sym (as-passed (bytes img) d k p) ∙ e in absurd (let z : _≡_ {A = ℕ} 0 1 = cc in omega arith)
+  by-rules k d size kind (Fail q) p e =
+      by-rule k d size kind (refused-due (layoutOf k d) (viewOf (layoutOf k d) (bytes img)) (layout-right k d) r .0 (p ∙ ap Fail (refusal-is (sym (as-failed (bytes img) d k p) ∙ e))))
+
+  by-kind : (d : Density) → length img ≡ lengthOf d → (k : Option Kind) → kindOf d (bytes img) ≡ k → checkKinds d (bytes img) ≡ Refused r → Owed img r
+  by-kind d size none q e =
+      let owed : Owed img (refusalAt 2 0) = no-kind d size (λ k i. none-some (sym q ∙ is-kind d (bytes img) k i)) in
+      rw (refusal-is (sym (kinds-none (bytes img) d q) ∙ e)) at owed
+  by-kind d size (some k) q e = by-rules k d size (kind-is d (bytes img) k q) (rules (layoutOf k d) (viewOf (layoutOf k d) (bytes img))) refl (sym (kinds-some (bytes img) d q) ∙ e)
+
+  by-density : (d : Option Density) → densityOf (length img) ≡ d → checkOf img ≡ Refused r → Owed img r
+  by-density none p e =
+      let owed : Owed img (refusalAt 1 0) = no-density (λ d i. none-some (sym p ∙ is-density (length img) d i)) in
+      rw (refusal-is (sym (head-none (bytes img) (length img) p) ∙ e)) at owed
+  by-density (some d) p e = by-kind d (density-is (length img) d p) (kindOf d (bytes img)) refl (sym (head-some (bytes img) (length img) p) ∙ e)
+
+owed-refused : (img : List ℕ) (r : Refusal) → Owed img r → checkOf img ≡ Refused r
+owed-refused img r (no-density n) = go (densityOf (length img)) refl
+  where
+    go : (d : Option Density) → densityOf (length img) ≡ d → checkOf img ≡ Refused (refusalAt 1 0)
+    go none p = head-none (bytes img) (length img) p
+    go (some d) p = absurd (n d (density-is (length img) d p))
+owed-refused img r (no-kind d p n) = head-some (bytes img) (length img) (is-density (length img) d p) ∙ go (kindOf d (bytes img)) refl
+  where
+    go : (k : Option Kind) → kindOf d (bytes img) ≡ k → checkKinds d (bytes img) ≡ Refused (refusalAt 2 0)
+    go none q = kinds-none (bytes img) d q
+    go (some k) q = absurd (n k (kind-is d (bytes img) k q))
+owed-refused img r (by-rule k d p i due) =
+    head-some (bytes img) (length img) (is-density (length img) d p)
+    ∙ kinds-some (bytes img) d (is-kind d (bytes img) k i)
+    ∙ as-failed (bytes img) d k (refused-due (layoutOf k d) (viewOf (layoutOf k d) (bytes img)) (layout-right k d) r .1 due)
+
+-- An image is refused by a number at a place exactly when that is due to it.
+pub refused-exactly : (img : List ℕ) (r : Refusal) → (checkOf img ≡ Refused r) ↔ Owed img r
+refused-exactly img r = (by-density img r (densityOf (length img)) refl, owed-refused img r)
