@@ -14,7 +14,7 @@ use Rattle.record.specs.Step.{stepImage}
 use Rattle.laws.specs.declared.Refusal.{Refusal}
 use Rattle.rules.specs.declared.Checked.{Checked}
 use Rattle.rules.specs.declared.Checked.the-variants.{Accepted, Refused}
-use Rattle.rules.specs.Check.{checkOf, refusalOf, lent, callOf}
+use Rattle.rules.specs.Check.{checkOf, refusalOf, lent, came, callOf}
 use Rattle.calls.specs.declared.Found.{Found}
 use Rattle.calls.specs.declared.Found.the-variants as found
 use Rattle.calls.specs.declared.Paged.{Paged}
@@ -52,10 +52,6 @@ entryOf (entries.Refused r) name = refusedBy r
 
 abbrev pub listedOf : Listed → Answer
 listedOf r = entryOf (r .entry) (r .name)
-
--- What a call comes to: its answer, the lent output afterwards, the image afterwards.
-abbrev pub came : Answer → List ℕ → List ℕ → Outcome (List ℕ)
-came answer output img = record { answer = answer; output = output; state = img }
 
 -- List's promise: its answer, and its 12 bytes, zeros but for the name.
 pub record Lists (img : List ℕ) (o : Outcome (List ℕ)) (r : Listed) : Type 0 where

@@ -31,9 +31,9 @@ use Rattle.record.specs.declared.Judged.the-variants.{Refuse, Grant}
 use Rattle.record.specs.Step.{after, stepImage}
 use Rattle.rules.specs.declared.Checked.{Checked}
 use Rattle.rules.specs.declared.Checked.the-variants.{Accepted}
-use Rattle.rules.specs.Check.{checkOf, callOf}
+use Rattle.rules.specs.Check.{came, checkOf, callOf}
 use Rattle.rules.specs.Accepted.{accepted-rules, accepted-counts}
-use Rattle.calls.specs.Answers.{came, foundOf, foundBy, call-accepted}
+use Rattle.calls.specs.Answers.{foundOf, foundBy, call-accepted}
 use Rattle.calls.specs.declared.Found.{Found}
 use Rattle.calls.specs.Paging.{size-some}
 

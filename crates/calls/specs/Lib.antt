@@ -6,4 +6,3 @@ pub mod Finding
 pub mod Paging
 pub mod Putting
 pub mod Made
-pub mod Sequence

@@ -7,17 +7,13 @@ use Rattle.record.specs.Record.{shapeOf, Call, check, list, find, page, put, re
 use Rattle.record.specs.Step.{stepImage}
 use Rattle.rules.specs.declared.Checked.{Checked}
 use Rattle.rules.specs.declared.Checked.the-variants.{Accepted, Refused}
-use Rattle.rules.specs.Check.{checkOf, refusalOf, answerOf, callOf}
+use Rattle.rules.specs.Check.{came, checkOf, refusalOf, answerOf, callOf, Made}
 use Rattle.rules.specs.Demand.{check-call}
 use Rattle.calls.specs.declared.Found.{Found}
 use Rattle.calls.specs.declared.Paged.{Paged}
 use Rattle.calls.specs.declared.Listed.{Listed}
 use Rattle.calls.specs.declared.Removed.{Removed}
-use Rattle.calls.specs.Answers.{came, foundOf, pagedOf, listedOf, removedOf, Lists, call-refused, call-accepted}
-
--- A call was made: answer, output and image afterwards are those of `callOf`.
-abbrev pub Made : List ℕ → Call → Answer → List ℕ → List ℕ → Type 0
-Made img c answer output after = came answer output after ≡ callOf img c
+use Rattle.calls.specs.Answers.{foundOf, pagedOf, listedOf, removedOf, Lists, call-refused, call-accepted}
 
 abbrev pub FindMade : List ℕ → List ℕ → Found → Type 0
 FindMade img name r = Made img (find name) (foundOf r) [] img

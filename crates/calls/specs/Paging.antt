@@ -21,7 +21,7 @@ use Rattle.view.specs.Disk.{File, used, entryChain, contentOf}
 use Rattle.view.specs.Counting.{entry-size}
 use Rattle.image.specs.Image.{viewOf, DiskRules}
 use Rattle.record.specs.Record.{paged, refused, paging}
-use Rattle.calls.specs.Answers.{came}
+use Rattle.rules.specs.Check.{came}
 use Rattle.calls.specs.Slots.{slotFile, file-length}
 
 -- a part that lies in the front

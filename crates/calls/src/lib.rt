@@ -12,8 +12,8 @@ ghost use Rattle.record.specs.Record.{slotOf, fileAt, judgeName, judgePut, list
 ghost use Rattle.names.specs.Names.{legalName};
 ghost use Rattle.laws.specs.Refusals.{refusalAt};
 ghost use mathlib.Core.Bool.{true};
-ghost use Rattle.rules.specs.Check.{callOf};
-ghost use Rattle.calls.specs.Answers.{came, foundOf, foundBy, pagedOf, Lists, unlistedBy, listCall, findCall, pageCall, putCall, removeCall, removedOf};
+ghost use Rattle.rules.specs.Check.{came, callOf};
+ghost use Rattle.calls.specs.Answers.{foundOf, foundBy, pagedOf, Lists, unlistedBy, listCall, findCall, pageCall, putCall, removeCall, removedOf};
 
 // A slot, or a refusal.
 pub enum Found {

@@ -120,6 +120,13 @@ pub record Outcome (S : Type 0) : Type 0 where
 abbrev pub answered : {S : Type 0} → S → Answer → Outcome S
 answered s a = record { answer = a; output = []; state = s }
 
+-- A call that was made, with what came of it: answer, lent output and image afterwards.
+pub record Turn : Type 0 where
+  pub call : Call
+  pub answer : Answer
+  pub output : List ℕ
+  pub after : List ℕ
+
 -- ---- a call on a name: refused by number and place, or granted a slot
 
 abbrev pub refuse : ℕ → ℕ → Judged

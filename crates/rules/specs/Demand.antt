@@ -1,4 +1,4 @@
--- Demand 3 over `callOf`: any sequence of calls on an accepted image behaves as the plain record, after each call; and what follows from it.
+-- Demand 3, one claim about calls made one after another on an accepted image: after each, all is the plain record's (`demand-3`).
 -- An accepted image meets the disk rules, a call keeps them and changes the files as the record does. Assumes nothing.
 use mathlib.Core.Path.{_≡_, refl, sym, ap, _∙_, fun-ext}
 use mathlib.Core.Bool.{Bool, true, false, true≢false}
@@ -6,6 +6,7 @@ use mathlib.Core.List.{List, [], _∷_}
 use mathlib.Core.Option.{Option, none, some}
 use mathlib.Core.Logic.{_↔_}
 use Prim.Native.Nat.{ℕ, _+_, _-_, _<_}
+use native.Mathlib.Decide.{decLt}
 use native.Mathlib.Omega.{arith}
 use lib.Dec.{ltb}
 use lib.ListN.{length}
@@ -27,8 +28,9 @@ use Rattle.names.specs.Names.{legalName, legalType}
 use Rattle.map.specs.Map.{mapAt, freeCount}
 use Rattle.view.specs.Disk.{File}
 use Rattle.view.specs.Counting.{takes}
-use Rattle.image.specs.Image.{filesIn, DiskRules}
-use Rattle.record.specs.Record.{shapeOf, Files, Call, check, page, put, remove, Answer, numberIn, Outcome, refused, refuseIf, named, isEmpty, slotOf, emptySlot, judgePut, putting, stepFiles}
+use Rattle.view.specs.Kept.{file-out}
+use Rattle.image.specs.Image.{viewOf, filesIn, DiskRules}
+use Rattle.record.specs.Record.{shapeOf, Files, Call, check, put, remove, Answer, Turn, numberIn, Outcome, refused, refuseIf, named, isEmpty, slotOf, emptySlot, judgePut, putting, stepFiles}
 use Rattle.record.specs.declared.Judged.{Judged}
 use Rattle.record.specs.declared.Judged.the-variants.{Refuse, Grant}
 use Rattle.record.specs.Order.{roomFor, order-room}
@@ -36,26 +38,46 @@ use Rattle.record.specs.Update.{area-split, free-is}
 use Rattle.record.specs.Step.{imageAfter, stepImage, step}
 use Rattle.record.specs.Others as record-others
 use Rattle.record.specs.Download as record-download
-use Rattle.record.specs.Download.{Item, mine, other, Got, nothing, withPage, got, Spared, Joins}
+use Rattle.record.specs.Download.{Pages, own, nothing, got, Asked, Spared, Joins, Answered}
 use Rattle.rules.specs.declared.Checked.{Checked}
 use Rattle.rules.specs.declared.Checked.the-variants.{Accepted, Refused}
-use Rattle.rules.specs.Check.{checkOf, answerOf, callOf}
+use Rattle.rules.specs.Check.{checkOf, answerOf, callOf, Made}
 use Rattle.rules.specs.Accepted.{acceptedAs, rules-accepted, accepted-rules, accepted-counts}
 
+-- ---- the claim
+
+-- Each call is made on the image that the one before it left.
+abbrev pub Ran : List ℕ → List Turn → Type 0
+Ran img [] = Unit {0}
+Ran img (t ∷ ts) = Made img (t .call) (t .answer) (t .output) (t .after) × Ran (t .after) ts
+
+-- What is claimed of one call, made on the image `before` when the record held the files `held`, and of those after it.
+pub record Kept (k : Kind) (d : Density) (before : List ℕ) (held : Files) (t : Turn) (ts : List Turn) : Type 0 where
+  -- the answer, number and place of a refusal included, and the output are the record's
+  pub answer : t .answer ≡ stepFiles (shapeOf k d) held (t .call) .answer
+  pub output : t .output ≡ stepFiles (shapeOf k d) held (t .call) .output
+  -- the image is accepted, of the same kind and density, and its files are, slot by slot, the record's
+  pub accepted : checkOf (t .after) ≡ acceptedAs k d (t .after)
+  pub files : (s : ℕ) → filesIn (layoutOf k d) (t .after) s ≡ stepFiles (shapeOf k d) held (t .call) .state s
+  -- a file that the call doesn't remove keeps slot, name, type and content
+  pub others : (s : ℕ) (file : File) → filesIn (layoutOf k d) before s ≡ some file → (t .call ≡ remove (file .name) → ⊥) → filesIn (layoutOf k d) (t .after) s ≡ some file
+  -- the free blocks, counted in the map, and every file's length rounded up to blocks make the data area
+  pub free : freeCount (layoutOf k d) (mapAt (bytes (t .after))) + total (λ s. takes (filesIn (layoutOf k d) (t .after) s)) 0 (layoutOf k d .slots) ≡ blocksOf d - firstOf d
+  -- a put with a legal type, a legal new name, some content and an empty slot is refused for room ↔ it needs more blocks than are free
+  pub room : (name : List ℕ) (type : ℕ) (content : List ℕ) → t .call ≡ put name type content → legalType (layoutOf k d) type ≡ true → legalName (layoutOf k d) name ≡ true
+      → ((s : ℕ) (file : File) → filesIn (layoutOf k d) before s ≡ some file → name ≡ file .name → ⊥) → (length content ≡ 0 → ⊥)
+      → (s : ℕ) → s < layoutOf k d .slots → filesIn (layoutOf k d) before s ≡ none
+      → (t .answer ≡ refused 15 0) ↔ (freeCount (layoutOf k d) (mapAt (bytes before)) < blocksFor (length content))
+  -- a download that begins with it joins to a beginning of the file, and to all of it ↔ its last page says the end, if none removes the file before that
+  pub download : (slot : ℕ) (file : File) → filesIn (layoutOf k d) before slot ≡ some file → (ps : Pages ts) → Asked slot 0 (own {t = t} ps) → Spared (file .name) ps
+      → Joins (file .content) (got nothing (own {t = t} ps))
+
+-- After each call of a sequence, refused ones included.
+abbrev pub Behaves : Kind → Density → List ℕ → Files → List Turn → Type 0
+Behaves k d img held [] = Unit {0}
+Behaves k d img held (t ∷ ts) = Kept k d img held t ts × Behaves k d (t .after) (stepFiles (shapeOf k d) held (t .call) .state) ts
+
 -- ---- one call
-
--- The claim after one call, the record having held the files `held` before it: answer (number and place of a refusal included) and output
--- are the record's, the image is accepted, of the same kind and density, and its files are, slot by slot, the record's.
-pub record After (k : Kind) (d : Density) (img : List ℕ) (held : Files) (c : Call) : Type 0 where
-  pub answer : callOf img c .answer ≡ stepFiles (shapeOf k d) held c .answer
-  pub output : callOf img c .output ≡ stepFiles (shapeOf k d) held c .output
-  pub accepted : checkOf (callOf img c .state) ≡ acceptedAs k d (callOf img c .state)
-  pub files : (t : ℕ) → filesIn (layoutOf k d) (callOf img c .state) t ≡ stepFiles (shapeOf k d) held c .state t
-
--- The claim after each call of a sequence, each on the image that the last one left.
-abbrev pub Served : Kind → Density → List ℕ → Files → List Call → Type 0
-Served k d img files [] = Unit {0}
-Served k d img files (c ∷ cs) = After k d img files c × Served k d (callOf img c .state) (stepFiles (shapeOf k d) files c .state) cs
 
 -- a call on an image that meets the rules
 call-is : (k : Kind) (d : Density) (img : List ℕ) (c : Call) → DiskRules (layoutOf k d) img → callOf img c ≡ stepImage (shapeOf k d) img c
@@ -74,30 +96,6 @@ files-after : (k : Kind) (d : Density) (img : List ℕ) (c : Call) → DiskRules
 files-after k d img c r t =
     ap (λ (x : List ℕ). filesIn (layoutOf k d) x t) (state-is k d img c r) ∙ step (shapeOf k d) (layout-right k d) img r c .files t
 
--- ---- sequences
-
-served : (k : Kind) (d : Density) (cs : List Call) (img : List ℕ) (files : Files) → DiskRules (layoutOf k d) img → filesIn (layoutOf k d) img ≡ files → Served k d img files cs
-unfolding stepImage
-served k d [] img files r e = tt
-served k d (c ∷ cs) img files r e =
-    let shape = shapeOf k d in
-    let w : callOf img c ≡ stepImage shape img c = call-is k d img c r in
-    let q : DiskRules (layoutOf k d) (callOf img c .state) = rules-after k d img c r in
-    let f : filesIn (layoutOf k d) (callOf img c .state) ≡ stepFiles shape files c .state =
-    fun-ext (files-after k d img c r) ∙ ap (λ (x : Files). stepFiles shape x c .state) e in (
-      record {
-        answer = ap (λ (x : Outcome (List ℕ)). x .answer) w ∙ ap (λ (x : Files). stepFiles shape x c .answer) e;
-        output = ap (λ (x : Outcome (List ℕ)). x .output) w ∙ ap (λ (x : Files). stepFiles shape x c .output) e;
-        accepted = rules-accepted k d (callOf img c .state) q;
-        files = λ t. ap (λ (x : Files). x t) f;
-      },
-      served k d cs (callOf img c .state) (stepFiles shape files c .state) q f,
-    )
-
--- Demand 3: the record begins as the files on the accepted image.
-pub sequence : (k : Kind) (d : Density) (f n : ℕ) (img : List ℕ) → checkOf img ≡ Accepted k d f n → (cs : List Call) → Served k d img (filesIn (layoutOf k d) img) cs
-sequence k d f n img e cs = served k d cs img (filesIn (layoutOf k d) img) (accepted-rules k d f n img e) refl
-
 -- The check as a call answers what the check does, on any bytes.
 pub check-call : (img : List ℕ) → callOf img check .answer ≡ answerOf (checkOf img)
 unfolding callOf stepFiles
@@ -110,7 +108,7 @@ check-call img = go (checkOf img) refl
         let w = accepted-counts k d f n img e in
         rw (e, free-is (layoutOf k d) (layout-right k d) img r, w .0, w .1) refl
 
--- ---- what follows
+-- ---- the free blocks
 
 data-of : (k : Kind) (d : Density) → layoutOf k d .blocks - layoutOf k d .first ≡ blocksOf d - firstOf d
 data-of S900 d = refl
@@ -123,12 +121,6 @@ pub free-blocks : (k : Kind) (d : Density) (f n : ℕ) (img : List ℕ) → chec
 free-blocks k d f n img e =
     let w = accepted-counts k d f n img e .1 in
     (w, rw w (area-split (layoutOf k d) (layout-right k d) img (accepted-rules k d f n img e) ∙ data-of k d))
-
--- A file that the call doesn't remove keeps slot, name, type and content.
-pub others : (k : Kind) (d : Density) (f n : ℕ) (img : List ℕ) → checkOf img ≡ Accepted k d f n → (c : Call) (t : ℕ) (file : File)
-    → filesIn (layoutOf k d) img t ≡ some file → (c ≡ remove (file .name) → ⊥) → filesIn (layoutOf k d) (callOf img c .state) t ≡ some file
-others k d f n img e c t file there spared =
-    files-after k d img c (accepted-rules k d f n img e) t ∙ record-others.others (shapeOf k d) (filesIn (layoutOf k d) img) t file there c spared
 
 -- ---- room
 
@@ -173,9 +165,8 @@ module _ (k : Kind) (d : Density) (f n : ℕ) (img : List ℕ) (yes : checkOf im
   put-answer (Refuse r) e = ap (λ (x : Outcome (List ℕ)). x .answer) (call-is k d img (put name type content) (accepted-rules k d f n img yes)) ∙ rw e refl
   put-answer (Grant s) e = ap (λ (x : Outcome (List ℕ)). x .answer) (call-is k d img (put name type content) (accepted-rules k d f n img yes)) ∙ rw e refl
 
-  -- Where type and name are legal, the name is new, content is given and a slot is empty: a put is refused for room ↔ its blocks outnumber
-  -- the free ones.
-  pub room : legalType l type ≡ true → legalName l name ≡ true → ((t : ℕ) (file : File) → files t ≡ some file → name ≡ file .name → ⊥) → (length content ≡ 0 → ⊥)
+  -- such a put is refused for room ↔ its blocks outnumber the free ones
+  room : legalType l type ≡ true → legalName l name ≡ true → ((t : ℕ) (file : File) → files t ≡ some file → name ≡ file .name → ⊥) → (length content ≡ 0 → ⊥)
       → (s : ℕ) → s < l .slots → files s ≡ none → (callOf img (put name type content) .answer ≡ refused 15 0) ↔ (n < blocksFor (length content))
   room type-legal name-legal new some-content s inside empty =
       let slot = some-slot s inside empty in
@@ -185,31 +176,70 @@ module _ (k : Kind) (d : Density) (f n : ℕ) (img : List ℕ) (yes : checkOf im
       let w = only-room img t u (slot .0) in
       (λ e. ltb-true n (blocksFor (length content)) (w .0 (sym a ∙ e)), λ h. a ∙ w .1 (lt-ltb n (blocksFor (length content)) h))
 
--- ---- downloads
+-- ---- sequences
 
--- the pages that an image gives are the record's
-same-got : (k : Kind) (d : Density) (slot : ℕ) (is : List Item) (img : List ℕ) (files : Files) (g : Got) → DiskRules (layoutOf k d) img → filesIn (layoutOf k d) img ≡ files
-    → got callOf slot img g is ≡ got (stepFiles (shapeOf k d)) slot files g is
-unfolding got stepImage
-same-got k d slot [] img files g r e = refl
-same-got k d slot (mine out ∷ is) img files g r e =
-    let shape = shapeOf k d in
-    let c = page slot (g .sum) out in
-    let w : withPage g (callOf img c) ≡ withPage g (stepFiles shape files c) =
-    ap (withPage g) (call-is k d img c r) ∙ ap (λ (x : Files). withPage g (stepFiles shape x c)) e in
-    ap (λ (x : Got). got callOf slot (callOf img c .state) x is) w
-    ∙ same-got k d slot is (callOf img c .state) (stepFiles shape files c .state) (withPage g (stepFiles shape files c)) (rules-after k d img c r)
-    (fun-ext (files-after k d img c r) ∙ ap (λ (x : Files). stepFiles shape x c .state) e)
-same-got k d slot (other c ∷ is) img files g r e =
-    let shape = shapeOf k d in
-    same-got k d slot is (callOf img c .state) (stepFiles shape files c .state) g (rules-after k d img c r)
-    (fun-ext (files-after k d img c r) ∙ ap (λ (x : Files). stepFiles shape x c .state) e)
+-- a slot that holds a file is one of the disk's
+slot-inside : (l : Layout) (img : List ℕ) (s : ℕ) (file : File) → filesIn l img s ≡ some file → s < l .slots
+slot-inside l img s file e = go (decLt s (l .slots))
+  where
+    go : Dec (s < l .slots) → s < l .slots
+    go (yes h) = h
+    go (no h) = let z : none ≡ some file = sym (file-out l (viewOf l (bytes img)) s (omega arith)) ∙ e in absurd (let o : _≡_ {A = ℕ} 0 1 = cc in omega arith)
 
--- Pages of one slot, at least one: the first from offset 0, each later one from where those before it ended, and between them any calls but a
--- removal of that file. Joined they are a beginning of the file, and all of it ↔ the last one says the end.
-pub download : (k : Kind) (d : Density) (f n : ℕ) (img : List ℕ) → checkOf img ≡ Accepted k d f n → (slot : ℕ) (file : File)
-    → slot < layoutOf k d .slots → filesIn (layoutOf k d) img slot ≡ some file → (out : List ℕ) (is : List Item) → Spared (file .name) is
-    → Joins (file .content) (got callOf slot img nothing (mine out ∷ is))
-download k d f n img e slot file h there out is spared =
-    rw (same-got k d slot (mine out ∷ is) img (filesIn (layoutOf k d) img) nothing (accepted-rules k d f n img e) refl)
-    (record-download.download (shapeOf k d) slot h file (filesIn (layoutOf k d) img) there out is spared)
+module _ (k : Kind) (d : Density) where
+  -- the image that a call leaves, and the record's files
+  after-made : (img : List ℕ) (t : Turn) (held : Files) → Made img (t .call) (t .answer) (t .output) (t .after) → DiskRules (layoutOf k d) img → filesIn (layoutOf k d) img ≡ held
+      → DiskRules (layoutOf k d) (t .after) × (filesIn (layoutOf k d) (t .after) ≡ stepFiles (shapeOf k d) held (t .call) .state)
+  after-made img t held m r e =
+      let state : t .after ≡ callOf img (t .call) .state = ap (λ (o : Outcome (List ℕ)). o .state) m in (
+        rw state (rules-after k d img (t .call) r),
+        rw state (fun-ext (files-after k d img (t .call) r) ∙ ap (λ (x : Files). stepFiles (shapeOf k d) x (t .call) .state) e),
+      )
+
+  answer-made : (img : List ℕ) (t : Turn) (held : Files) → Made img (t .call) (t .answer) (t .output) (t .after) → DiskRules (layoutOf k d) img → filesIn (layoutOf k d) img ≡ held
+      → (t .answer ≡ stepFiles (shapeOf k d) held (t .call) .answer) × (t .output ≡ stepFiles (shapeOf k d) held (t .call) .output)
+  unfolding stepImage
+  answer-made img t held m r e =
+      let w = m ∙ call-is k d img (t .call) r in (
+        ap (λ (o : Outcome (List ℕ)). o .answer) w ∙ ap (λ (x : Files). stepFiles (shapeOf k d) x (t .call) .answer) e,
+        ap (λ (o : Outcome (List ℕ)). o .output) w ∙ ap (λ (x : Files). stepFiles (shapeOf k d) x (t .call) .output) e,
+      )
+
+  answered : (ts : List Turn) (img : List ℕ) (held : Files) → Ran img ts → DiskRules (layoutOf k d) img → filesIn (layoutOf k d) img ≡ held → Answered (shapeOf k d) held ts
+  unfolding Answered
+  answered [] img held ran r e = tt
+  answered (t ∷ ts) img held ran r e =
+      let a = answer-made img t held (ran .0) r e in
+      let b = after-made img t held (ran .0) r e in
+      (a .0, a .1, answered ts (t .after) _ (ran .1) (b .0) (b .1))
+
+  kept : (img : List ℕ) (held : Files) (t : Turn) (ts : List Turn) → Ran img (t ∷ ts) → DiskRules (layoutOf k d) img → filesIn (layoutOf k d) img ≡ held → Kept k d img held t ts
+  kept img held t ts ran r e =
+      let l = layoutOf k d in
+      let a = answer-made img t held (ran .0) r e in
+      let b = after-made img t held (ran .0) r e in
+      record {
+        answer = a .0;
+        output = a .1;
+        accepted = rules-accepted k d (t .after) (b .0);
+        files = λ s. ap (λ (x : Files). x s) (b .1);
+        others = λ s file there spared. ap (λ (x : Files). x s) (b .1) ∙ record-others.others (shapeOf k d) held s file (sym (ap (λ (x : Files). x s) e) ∙ there) (t .call) spared;
+        free = area-split l (layout-right k d) (t .after) (b .0) ∙ data-of k d;
+        room = λ name type content c type-legal name-legal new some-content s inside empty.
+            let yes = rules-accepted k d img r in
+            let answer : t .answer ≡ callOf img (put name type content) .answer = ap (λ (o : Outcome (List ℕ)). o .answer) (ran .0) ∙ ap (λ (x : Call). callOf img x .answer) c in
+            rw answer (room k d _ _ img yes name type content type-legal name-legal new some-content s inside empty);
+        download = λ slot file there ps asked spared.
+            record-download.download (shapeOf k d) slot (slot-inside l img slot file there) file t ps held (answered (t ∷ ts) img held ran r e) (sym (ap (λ (x : Files). x slot) e) ∙ there) asked spared;
+      }
+
+  behaves : (ts : List Turn) (img : List ℕ) (held : Files) → Ran img ts → DiskRules (layoutOf k d) img → filesIn (layoutOf k d) img ≡ held → Behaves k d img held ts
+  behaves [] img held ran r e = tt
+  behaves (t ∷ ts) img held ran r e =
+      let b = after-made img t held (ran .0) r e in
+      (kept img held t ts ran r e, behaves ts (t .after) _ (ran .1) (b .0) (b .1))
+
+-- Demand 3: whatever calls are made on an accepted image, after each of them all is as claimed of the record, which begins as the files on the
+-- image and is fed the calls' arguments alone.
+pub demand-3 : (k : Kind) (d : Density) (f n : ℕ) (img : List ℕ) → checkOf img ≡ Accepted k d f n → (ts : List Turn) → Ran img ts → Behaves k d img (filesIn (layoutOf k d) img) ts
+demand-3 k d f n img e ts ran = behaves k d ts img (filesIn (layoutOf k d) img) ran (accepted-rules k d f n img e) refl

@@ -1,5 +1,5 @@
 -- Demand 3 for a whole script: the calls that a run makes, with what comes of each, behave as the plain record, after each call.
--- A run's turns are made one on the image that the last left, so `demand-3` (calls) speaks of them. Assumes nothing.
+-- A run's turns are made one on the image that the last left, so `demand-3` (rules) speaks of them. Assumes nothing.
 use mathlib.Core.Path.{_≡_, refl}
 use mathlib.Core.List.{List, [], _∷_}
 use mathlib.Core.Option.{Option, none, some}
@@ -10,11 +10,10 @@ use Rattle.layout.specs.declared.Kind.{Kind}
 use Rattle.layout.specs.declared.Density.{Density}
 use Rattle.layout.specs.Layouts.{layoutOf}
 use Rattle.image.specs.Image.{filesIn}
-use Rattle.record.specs.Record.{Call, Outcome}
+use Rattle.record.specs.Record.{Call, Turn, Outcome}
 use Rattle.rules.specs.declared.Checked.the-variants.{Accepted}
-use Rattle.rules.specs.Check.{checkOf, callOf}
-use Rattle.calls.specs.Answers.{came}
-use Rattle.calls.specs.Sequence.{Turn, Ran, Behaves, demand-3}
+use Rattle.rules.specs.Check.{came, checkOf, callOf}
+use Rattle.rules.specs.Demand.{Ran, Behaves, demand-3}
 use Rattle.session.specs.Script.{entryCall, shownBy, enteredBy, afterRun, Ended, runFrom, runOf, entries}
 
 -- the call that the k-th entry is, with what it is lent of the output
@@ -74,6 +73,6 @@ run-turns script pool (suc n) k img out =
 -- Take any accepted image and any script, pool and output: the run leaves what its turns leave, and after each of them all is the record's.
 pub script-serves : (k : Kind) (d : Density) (f n : ℕ) (img script pool out : List ℕ) → checkOf img ≡ Accepted k d f n
     → let ts = turns script pool (entries script out) 0 img out in
-    (runOf img script pool out ≡ leave out 0 img ts) × Behaves k d (filesIn (layoutOf k d) img) ts
+    (runOf img script pool out ≡ leave out 0 img ts) × Behaves k d img (filesIn (layoutOf k d) img) ts
 script-serves k d f n img script pool out e =
     let ts = turns script pool (entries script out) 0 img out in (run-turns script pool (entries script out) 0 img out, demand-3 k d f n img e ts (ran script pool (entries script out) 0 img out))
