@@ -32,6 +32,7 @@ use Rattle.map.specs.Chains.{length-chain, chain-cong, chain-data, chain-short}
 use Rattle.view.specs.Disk.{File, used, entryChain, chainOf, contentOf, filesOf}
 use Rattle.image.specs.Image.{viewOf, filesIn, DiskRules}
 use Rattle.record.specs.Record.{Call, list, find, page, refusedBy, Outcome, named, refuseIf, orRefuse, slotOf, fileAt, judgeName, listing, paging}
+use Rattle.record.specs.Step.{list-output}
 use Rattle.record.specs.declared.Judged.{Judged}
 use Rattle.record.specs.declared.Judged.the-variants.{Grant}
 use Rattle.rules.specs.declared.Checked.{Checked}
@@ -149,10 +150,6 @@ module _ (x y : List ℕ) (same : SameHead x y) where
 
 -- ---- what an answer doesn't take from the image
 
-listing-output : (img : List ℕ) (w : Option File) → listing img w .output ≡ []
-listing-output img none = refl
-listing-output img (some f) = refl
-
 paging-by : (x y : List ℕ) (w : Option File) (offset : ℕ) (out : List ℕ)
     → (paging y w offset out .answer ≡ paging x w offset out .answer) × (paging y w offset out .output ≡ paging x w offset out .output)
 paging-by x y none offset out = (refl, refl)
@@ -198,7 +195,7 @@ module _ (x y : List ℕ) (same : SameHead x y) where
           let b = list-done y refl (check-same x y same ∙ e) refl s in
           record {
             answer = ap (λ (o : Outcome (List ℕ)). o .answer) (sym b) ∙ listing-by x y same e s (decLt s (l .slots)) (used (viewOf l (bytes x) .entry s)) refl ∙ ap (λ (o : Outcome (List ℕ)). o .answer) a;
-            output = ap (λ (o : Outcome (List ℕ)). o .output) (sym b) ∙ listing-output y (fileAt l (filesIn l y) s) ∙ sym (listing-output x (fileAt l (filesIn l x) s)) ∙ ap (λ (o : Outcome (List ℕ)). o .output) a;
+            output = ap (λ (o : Outcome (List ℕ)). o .output) (sym b) ∙ list-output y (fileAt l (filesIn l y) s) ∙ sym (list-output x (fileAt l (filesIn l x) s)) ∙ ap (λ (o : Outcome (List ℕ)). o .output) a;
           }
 
   -- So does a find.

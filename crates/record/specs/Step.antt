@@ -2,7 +2,7 @@
 -- By cases on the call and on the record's judgement. Assumes nothing.
 use mathlib.Core.Path.{_≡_, refl, sym, ap, _∙_}
 use mathlib.Core.Bool.{Bool, true, false}
-use mathlib.Core.List.{List}
+use mathlib.Core.List.{List, []}
 use mathlib.Core.Option.{Option, none, some}
 use Prim.Native.Nat.{ℕ}
 use lib.Dec.{ltb}
@@ -11,7 +11,7 @@ use Rattle.layout.specs.declared.Layout.{Layout}
 use Rattle.layout.specs.Right.{LayoutRight}
 use Rattle.view.specs.Disk.{File}
 use Rattle.image.specs.Image.{filesIn, DiskRules, removeImage, putImage}
-use Rattle.record.specs.Record.{Shape, Files, Call, check, list, find, page, put, remove, Outcome, judgeName, judgePut, fileAt, finding, listing, paging, stepFiles}
+use Rattle.record.specs.Record.{Shape, Files, Call, check, list, find, page, put, remove, Outcome, judgeName, judgePut, fileAt, finding, listing, paging, putting, removing, stepFiles}
 use Rattle.record.specs.declared.Judged.{Judged}
 use Rattle.record.specs.declared.Judged.the-variants.{Refuse, Grant}
 use Rattle.record.specs.Update.{remove-rules, remove-files, put-rules, put-files}
@@ -36,6 +36,25 @@ unfolding imageAfter stepFiles
 stepImage shape img c =
     let o = stepFiles shape (filesIn (shape .layout) img) c in
     record { answer = o .answer; output = o .output; state = imageAfter (shape .layout) img c }
+
+-- ---- only a page has an output
+
+module _ {S : Type 0} (state : S) where
+  pub list-output : (w : Option File) → listing state w .output ≡ []
+  list-output none = refl
+  list-output (some f) = refl
+
+  pub find-output : (j : Judged) → finding state j .output ≡ []
+  find-output (Refuse r) = refl
+  find-output (Grant s) = refl
+
+  pub put-output : (next : ℕ → S) (j : Judged) → putting state next j .output ≡ []
+  put-output next (Refuse r) = refl
+  put-output next (Grant s) = refl
+
+  pub remove-output : (next : ℕ → S) (j : Judged) → removing state next j .output ≡ []
+  remove-output next (Refuse r) = refl
+  remove-output next (Grant s) = refl
 
 -- ---- calls that only read keep the record's files
 

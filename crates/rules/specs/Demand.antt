@@ -80,7 +80,7 @@ Behaves k d img held (t ∷ ts) = Kept k d img held t ts × Behaves k d (t .afte
 -- ---- one call
 
 -- a call on an image that meets the rules
-call-is : (k : Kind) (d : Density) (img : List ℕ) (c : Call) → DiskRules (layoutOf k d) img → callOf img c ≡ stepImage (shapeOf k d) img c
+pub call-is : (k : Kind) (d : Density) (img : List ℕ) (c : Call) → DiskRules (layoutOf k d) img → callOf img c ≡ stepImage (shapeOf k d) img c
 unfolding callOf
 call-is k d img c r = rw (rules-accepted k d img r) refl
 

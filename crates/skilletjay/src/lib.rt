@@ -1,13 +1,14 @@
 // The C interface (include/skilletjay.h): each call takes any bytes, and promises every field of its result and every byte of a lent output.
 ghost use mathlib.Core.Path.{_≡_};
 ghost use Rattle.record.specs.Record.{check, kindNumber, densityNumber};
-ghost use Rattle.rules.specs.Check.{answerOf, callOf};
-ghost use Rattle.calls.specs.Answers.{foundOf, pagedOf, listedOf, removedOf, listCall, findCall, pageCall, putCall, removeCall};
+ghost use Rattle.rules.specs.Check.{answerOf};
+ghost use Rattle.calls.specs.Answers.{foundOf, pagedOf, listedOf, removedOf};
 ghost use Rattle.locate.specs.Locate.{blocksOf};
 ghost use Rattle.session.specs.Script.{afterRun, runOf};
 ghost use Rattle.samples.specs.Samples.{unpackOf, packOf};
 ghost use Rattle.program.specs.Program.{programOf};
-ghost use Rattle.skilletjay.specs.Results.{checkedResult, listedWith, listedResult, foundResult, pagedResult, doneResult, countedResult};
+ghost use Rattle.skilletjay.specs.Told.{Told, checked, listed, found, paged, placed, removed};
+ghost use Rattle.skilletjay.specs.Results.{checkedResult, listedWith, foundResult, pagedResult, doneResult, countedResult};
 use samples::Sampler;
 
 // sj_checked: kind 900 or 1000, density 0 low or 1 high, the number of files and of free blocks.
@@ -215,7 +216,7 @@ fn counted_result(counted: laws::Counted) -> CCounted
 // Whether an image is accepted: refusals 1 to 9. The image is lent and kept.
 #[no_mangle]
 pub extern "C" fn sj_check(image: &[u8]) -> CChecked
-    ensures { λ r. ⌜ r ≡ checkedResult (callOf (now (image .entry)) check .answer) ⌝ }
+    ensures { λ r. ⌜ Told (now (image .entry)) (checked r) ⌝ }
 {
     checked_result(disk::check(image))
 }
@@ -223,7 +224,7 @@ pub extern "C" fn sj_check(image: &[u8]) -> CChecked
 // What a slot holds: refusals 1 to 9, then 10 if it is empty or not there. The image is lent and kept.
 #[no_mangle]
 pub extern "C" fn sj_list(image: &[u8], slot: usize) -> CListed
-    ensures { λ r. ⌜ r ≡ listedResult (callOf (now (image .entry)) (listCall slot) .answer) ⌝ }
+    ensures { λ r. ⌜ Told (now (image .entry)) (listed slot r) ⌝ }
 {
     listed_result(calls::list(image, slot))
 }
@@ -231,7 +232,7 @@ pub extern "C" fn sj_list(image: &[u8], slot: usize) -> CListed
 // The slot of the file with a name: refusals 1 to 9, then 11, then 10. Image and name are lent and kept.
 #[no_mangle]
 pub extern "C" fn sj_find(image: &[u8], name: &[u8]) -> CFound
-    ensures { λ r. ⌜ r ≡ foundResult (callOf (now (image .entry)) (findCall (now (name .entry))) .answer) ⌝ }
+    ensures { λ r. ⌜ Told (now (image .entry)) (found (now (name .entry)) r) ⌝ }
 {
     found_result(calls::find(image, name))
 }
@@ -240,8 +241,7 @@ pub extern "C" fn sj_find(image: &[u8], name: &[u8]) -> CFound
 // bytes are kept, and all of them on a refusal.
 #[no_mangle]
 pub extern "C" fn sj_page(image: &[u8], slot: usize, offset: usize, out: &mut [u8]) -> CPaged
-    ensures answer { λ r. ⌜ r ≡ pagedResult (callOf (now (image .entry)) (pageCall slot offset (now (out .entry))) .answer) ⌝ }
-    ensures output { λ _. ⌜ now (out .exit) ≡ callOf (now (image .entry)) (pageCall slot offset (now (out .entry))) .output ⌝ }
+    ensures { λ r. ⌜ Told (now (image .entry)) (paged slot offset (now (out .entry)) r (now (out .exit))) ⌝ }
 {
     paged_result(calls::page(image, slot, offset, out))
 }
@@ -260,8 +260,7 @@ pub extern "C" fn sj_blocks(image: &[u8], slot: usize, out: &mut [u16]) -> CCoun
 // name, 14, 15, 16. Name and content are lent and kept; so is the image on a refusal.
 #[no_mangle]
 pub extern "C" fn sj_put(image: &mut [u8], name: &[u8], letter: u8, content: &[u8]) -> CFound
-    ensures answer { λ r. ⌜ r ≡ foundResult (callOf (now (image .entry)) (putCall (now (name .entry)) letter (now (content .entry))) .answer) ⌝ }
-    ensures image { λ _. ⌜ now (image .exit) ≡ callOf (now (image .entry)) (putCall (now (name .entry)) letter (now (content .entry))) .state ⌝ }
+    ensures { λ r. ⌜ Told (now (image .entry)) (placed (now (name .entry)) letter (now (content .entry)) r (now (image .exit))) ⌝ }
 {
     found_result(calls::put(image, name, letter, content))
 }
@@ -269,8 +268,7 @@ pub extern "C" fn sj_put(image: &mut [u8], name: &[u8], letter: u8, content: &[u
 // Removes the file with a name: refusals 1 to 9, then 11, then 10. The name is lent and kept; so is the image on a refusal.
 #[no_mangle]
 pub extern "C" fn sj_remove(image: &mut [u8], name: &[u8]) -> CDone
-    ensures answer { λ r. ⌜ r ≡ doneResult (callOf (now (image .entry)) (removeCall (now (name .entry))) .answer) ⌝ }
-    ensures image { λ _. ⌜ now (image .exit) ≡ callOf (now (image .entry)) (removeCall (now (name .entry))) .state ⌝ }
+    ensures { λ r. ⌜ Told (now (image .entry)) (removed (now (name .entry)) r (now (image .exit))) ⌝ }
 {
     done_result(calls::remove(image, name))
 }

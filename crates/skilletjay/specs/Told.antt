@@ -1,0 +1,90 @@
+-- The calls of C's functions on an image, what each promises, and the record's answer as C's result tells it.
+-- Assumes nothing.
+use mathlib.Core.Path.{_≡_}
+use mathlib.Core.Bool.{false}
+use mathlib.Core.List.{List, [], _∷_}
+use mathlib.Core.Option.{Option, none, some}
+use Prim.Native.Nat.{ℕ}
+use lib.Dec.{eqb}
+use lib.ListN.{take}
+use Rattle.laws.specs.Truth.{pick}
+use Rattle.laws.specs.declared.Refusal.{Refusal}
+use Rattle.laws.specs.Refusals.{refusalAt}
+use Rattle.layout.specs.declared.Layout.{Layout}
+use Rattle.record.specs.Record.{check, list, find, page, put, remove, Answer, Turn}
+use Rattle.rules.specs.Check.{callOf}
+use Rattle.skilletjay.specs.declared.CChecked.{CChecked}
+use Rattle.skilletjay.specs.declared.CListed.{CListed}
+use Rattle.skilletjay.specs.declared.CFound.{CFound}
+use Rattle.skilletjay.specs.declared.CPaged.{CPaged}
+use Rattle.skilletjay.specs.declared.CDone.{CDone}
+use Rattle.skilletjay.specs.Results.{checkedResult, listedResult, foundResult, pagedResult, doneResult}
+
+-- A call of one of C's functions that was made: its arguments, its result, and what it left in what was lent to it to write.
+pub data CTurn : Type 0 where
+  checked : CChecked → CTurn
+  listed : ℕ → CListed → CTurn
+  found : List ℕ → CFound → CTurn
+  -- slot, offset, the output as it was lent; the output afterwards
+  paged : ℕ → ℕ → List ℕ → CPaged → List ℕ → CTurn
+  -- name, type, content; the image afterwards
+  placed : List ℕ → ℕ → List ℕ → CFound → List ℕ → CTurn
+  removed : List ℕ → CDone → List ℕ → CTurn
+
+-- What each of the functions promises on an image: its result, and all that it writes to. src/lib.rt has these as contracts.
+abbrev pub Told : List ℕ → CTurn → Type 0
+Told img (checked r) = r ≡ checkedResult (callOf img check .answer)
+Told img (listed slot r) = r ≡ listedResult (callOf img (list slot) .answer)
+Told img (found name r) = r ≡ foundResult (callOf img (find name) .answer)
+Told img (paged slot offset lent r out) = (r ≡ pagedResult (callOf img (page slot offset lent) .answer)) × (out ≡ callOf img (page slot offset lent) .output)
+Told img (placed name type content r after) = (r ≡ foundResult (callOf img (put name type content) .answer)) × (after ≡ callOf img (put name type content) .state)
+Told img (removed name r after) = (r ≡ doneResult (callOf img (remove name) .answer)) × (after ≡ callOf img (remove name) .state)
+
+-- ---- the answer that a result tells
+
+-- A refusal's number is never 0.
+abbrev pub refusalIn : ℕ → ℕ → Option Refusal
+refusalIn number place = pick (eqb number 0) none (some (refusalAt number place))
+
+abbrev pub checkedIn : CChecked → Answer
+checkedIn r = record { refusal = refusalIn (r .refusal) (r .place); value = r .files; free = r .free; kind = r .kind; density = r .density; name = []; type = 0; end = false }
+
+-- A name has the layout's number of letters, and none where the call was refused.
+abbrev pub listedIn : Layout → CListed → Answer
+listedIn l r = record {
+  refusal = refusalIn (r .refusal) (r .place);
+  value = r .length;
+  free = 0;
+  kind = 0;
+  density = 0;
+  name = pick (eqb (r .refusal) 0) (take (l .letters) (r .name)) [];
+  type = r .letter;
+  end = false;
+}
+
+abbrev pub foundIn : CFound → Answer
+foundIn r = record { refusal = refusalIn (r .refusal) (r .place); value = r .slot; free = 0; kind = 0; density = 0; name = []; type = 0; end = false }
+
+abbrev pub pagedIn : CPaged → Answer
+pagedIn r = record { refusal = refusalIn (r .refusal) (r .place); value = r .count; free = 0; kind = 0; density = 0; name = []; type = 0; end = r .end }
+
+abbrev pub doneIn : CDone → Answer
+doneIn r = record { refusal = refusalIn (r .refusal) (r .place); value = 0; free = 0; kind = 0; density = 0; name = []; type = 0; end = false }
+
+-- A call of C's functions on an image of a layout as the call that it stands for, with its answer and what it left.
+abbrev pub turnIn : Layout → List ℕ → CTurn → Turn
+turnIn l img (checked r) = record { call = check; answer = checkedIn r; output = []; after = img }
+turnIn l img (listed slot r) = record { call = list slot; answer = listedIn l r; output = []; after = img }
+turnIn l img (found name r) = record { call = find name; answer = foundIn r; output = []; after = img }
+turnIn l img (paged slot offset lent r out) = record { call = page slot offset lent; answer = pagedIn r; output = out; after = img }
+turnIn l img (placed name type content r after) = record { call = put name type content; answer = foundIn r; output = []; after = after }
+turnIn l img (removed name r after) = record { call = remove name; answer = doneIn r; output = []; after = after }
+
+-- A sequence of such calls, each on the image that the one before it left.
+abbrev pub CRan : Layout → List ℕ → List CTurn → Type 0
+CRan l img [] = Unit {0}
+CRan l img (t ∷ ts) = Told img t × CRan l (turnIn l img t .after) ts
+
+abbrev pub turnsIn : Layout → List ℕ → List CTurn → List Turn
+turnsIn l img [] = []
+turnsIn l img (t ∷ ts) = turnIn l img t ∷ turnsIn l (turnIn l img t .after) ts
