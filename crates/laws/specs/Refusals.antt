@@ -2,7 +2,7 @@
 -- Each test refuses or lets the call go on, so a refused call keeps its output. Assumes nothing.
 use mathlib.Core.Path.{_≡_, refl, sym}
 use mathlib.Core.List.{List}
-use Prim.Native.Nat.{ℕ}
+use Prim.Native.Nat.{ℕ, _≤_}
 use native.Mathlib.Omega.{arith}
 use Rattle.laws.specs.declared.Lowest.{Lowest}
 use Rattle.laws.specs.declared.Lowest.the-variants.{At, Nowhere}
@@ -31,13 +31,16 @@ abbrev pub unless : {A : Type 0} → ℕ → Lowest → List A → Filled A → 
 unless number (At place) output rest = filled (Refused (refusalAt number place)) output
 unless number Nowhere output rest = rest
 
--- Where a call is refused, it keeps the output that was lent.
+-- Where a call is refused, it keeps the output that was lent, and the refusal's number isn't 0.
 abbrev pub Keeps : {A : Type 0} → List A → Filled A → Type 0
-Keeps output f = (r : Refusal) → f .answer ≡ Refused r → f .output ≡ output
+Keeps output f = (r : Refusal) → f .answer ≡ Refused r → (1 ≤ r .number) × (f .output ≡ output)
 
-pub keeps-unless : {A : Type 0} (number : ℕ) (fault : Lowest) (output : List A) (rest : Filled A) → Keeps output rest → Keeps output (unless number fault output rest)
-keeps-unless number (At place) output rest k r e = refl
-keeps-unless number Nowhere output rest k r e = k r e
+pub keeps-refused : {A : Type 0} (q : Refusal) (output : List A) → 1 ≤ q .number → Keeps output (filled (Refused q) output)
+keeps-refused q output h r e = let z : q ≡ r = cc in (rw z at h, refl)
 
 pub keeps-done : {A : Type 0} (count : ℕ) (output after : List A) → Keeps output (filled (Done count) after)
 keeps-done count output after r e = absurd (refused-done (sym e))
+
+pub keeps-unless : {A : Type 0} (number : ℕ) (fault : Lowest) (output : List A) (rest : Filled A) → 1 ≤ number → Keeps output rest → Keeps output (unless number fault output rest)
+keeps-unless number (At place) output rest h k = keeps-refused (refusalAt number place) output h
+keeps-unless number Nowhere output rest h k = k

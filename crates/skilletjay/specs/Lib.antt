@@ -1,3 +1,4 @@
 pub mod Results
 pub mod Told
+pub mod Counted
 pub mod Sequence
