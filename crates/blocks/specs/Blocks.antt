@@ -65,27 +65,27 @@ length-block content = length-padded (take 1024 content) 1024 (omega (arith, len
 block-off : (img : List ℕ) (k : ℕ) (content : List ℕ) (i : ℕ) → (i < blockOffset k) ⊎ (blockOffset k + 1024 ≤ i) → bytes (splice img (blockOffset k) (blockOf content)) i ≡ bytes img i
 block-off img k content i h = splice-off img (blockOffset k) (blockOf content) i (rw (length-block content) h)
 
+-- a byte apart from the blocks is kept
+pub write-off : (img ks content : List ℕ) (i : ℕ) → ((k : ℕ) → In k ks → (i < blockOffset k) ⊎ (blockOffset k + 1024 ≤ i)) → bytes (writeBlocks img ks content) i ≡ bytes img i
+unfolding writeBlocks
+write-off img [] content i h = refl
+write-off img (k ∷ ks) content i h =
+    write-off (splice img (blockOffset k) (blockOf content)) ks (drop 1024 content) i (λ x j. h x (inr j)) ∙ block-off img k content i (h k (inl refl))
+
 -- below the blocks nothing changes
 pub write-low : (img ks content : List ℕ) (first i : ℕ) → ((k : ℕ) → In k ks → first ≤ k) → i < blockOffset first → bytes (writeBlocks img ks content) i ≡ bytes img i
-unfolding writeBlocks
-write-low img [] content first i h p = refl
-write-low img (k ∷ ks) content first i h p =
-    let up : first ≤ k = h k (inl refl) in
-    write-low (splice img (blockOffset k) (blockOf content)) ks (drop 1024 content) first i (λ x j. h x (inr j)) p ∙ block-off img k content i (inl (omega arith))
+write-low img ks content first i h p = write-off img ks content i (λ k j. inl (omega (arith, h k j)))
 
 -- two blocks that differ lie apart
-apart-by : (img : List ℕ) (k : ℕ) (content : List ℕ) (c : ℕ) → (c ≡ k → ⊥) → Dec (c < k) → (i : ℕ) → blockOffset c ≤ i → i < blockOffset c + 1024
-    → bytes (splice img (blockOffset k) (blockOf content)) i ≡ bytes img i
-apart-by img k content c n (yes p) i x y = block-off img k content i (inl (omega arith))
-apart-by img k content c n (no p) i x y = block-off img k content i (inr (omega arith))
+apart-by : (c k i : ℕ) → (c ≡ k → ⊥) → Dec (c < k) → blockOffset c ≤ i → i < blockOffset c + 1024 → (i < blockOffset k) ⊎ (blockOffset k + 1024 ≤ i)
+apart-by c k i n (yes p) x y = inl (omega arith)
+apart-by c k i n (no p) x y = inr (omega arith)
 
 -- a block that isn't written keeps its bytes
 pub write-other : (img ks content : List ℕ) (c : ℕ) → (In c ks → ⊥) → blockAt (bytes (writeBlocks img ks content)) c ≡ blockAt (bytes img) c
-unfolding writeBlocks
-write-other img [] content c n = refl
-write-other img (k ∷ ks) content c n =
-    let one : List ℕ = splice img (blockOffset k) (blockOf content) in
-    write-other one ks (drop 1024 content) c (λ i. n (inr i)) ∙ tab-cong (bytes img) (bytes one) (blockOffset c) 1024 (apart-by img k content c (λ e. n (inl e)) (decLt c k))
+write-other img ks content c n =
+    tab-cong (bytes img) (bytes (writeBlocks img ks content)) (blockOffset c) 1024
+    (λ i x y. write-off img ks content i (λ k j. apart-by c k i (λ e. n (rw e j)) (decLt c k) x y))
 
 block-same : (img : List ℕ) (k : ℕ) (content : List ℕ) → blockOffset k + 1024 ≤ length img → blockAt (bytes (splice img (blockOffset k) (blockOf content))) k ≡ blockOf content
 block-same img k content h =

@@ -1,3 +1,4 @@
 pub mod Image
 pub mod Entries
 pub mod Effect
+pub mod Outside

@@ -31,21 +31,25 @@ set-off : (img : List ℕ) (b v i : ℕ) → (i < mapOffset b) ⊎ (mapOffset b 
 unfolding setMap
 set-off img b v i h = splice-off img (mapOffset b) (digits 2 v) i h
 
-other-by : (b v c : ℕ) → (c ≡ b → ⊥) → Dec (c < b) → (i : ℕ) → mapOffset c ≤ i → i < mapOffset c + 2 → (i < mapOffset b) ⊎ (mapOffset b + 2 ≤ i)
-other-by b v c n (yes p) i x y = inl (omega arith)
-other-by b v c n (no p) i x y = inr (omega arith)
+-- a byte of no map value of these blocks
+abbrev pub Off : List ℕ → ℕ → Type 0
+Off bs i = (b : ℕ) → In b bs → (i < mapOffset b) ⊎ (mapOffset b + 2 ≤ i)
 
-pub map-other : (img : List ℕ) (b v c : ℕ) → (c ≡ b → ⊥) → mapAt (bytes (setMap img b v)) c ≡ mapAt (bytes img) c
-map-other img b v c n =
-    number-cong 2 (bytes img) (bytes (setMap img b v)) (mapOffset c) (λ i x y. set-off img b v i (other-by b v c n (decLt c b) i x y))
+-- as those of another block's value are
+off-by : (c b i : ℕ) → (c ≡ b → ⊥) → Dec (c < b) → mapOffset c ≤ i → i < mapOffset c + 2 → (i < mapOffset b) ⊎ (mapOffset b + 2 ≤ i)
+off-by c b i n (yes p) x y = inl (omega arith)
+off-by c b i n (no p) x y = inr (omega arith)
 
--- a byte outside the map of n blocks
+off-other : (bs : List ℕ) (c i : ℕ) → (In c bs → ⊥) → mapOffset c ≤ i → i < mapOffset c + 2 → Off bs i
+off-other bs c i n x y b j = off-by c b i (λ e. n (rw e j)) (decLt c b) x y
+
+-- and those outside the map of n blocks
 abbrev pub Outside : ℕ → ℕ → Type 0
 Outside n i = (i < mapOffset 0) ⊎ (mapOffset n ≤ i)
 
-set-outside : (img : List ℕ) (b v n i : ℕ) → b < n → Outside n i → bytes (setMap img b v) i ≡ bytes img i
-set-outside img b v n i h (inl p) = set-off img b v i (inl (omega arith))
-set-outside img b v n i h (inr p) = set-off img b v i (inr (omega arith))
+off-outside : (bs : List ℕ) (n i : ℕ) → ((b : ℕ) → In b bs → b < n) → Outside n i → Off bs i
+off-outside bs n i h (inl p) b j = inl (omega arith)
+off-outside bs n i h (inr p) b j = inr (omega (arith, h b j))
 
 -- ---- a chain of blocks
 
@@ -54,16 +58,16 @@ unfolding linkBlocks
 length-link img [] mark = refl
 length-link img (b ∷ bs) mark = length-link (setMap img b (firstOr bs mark)) bs mark ∙ length-set-map img _ _
 
-pub link-other : (img bs : List ℕ) (mark c : ℕ) → (In c bs → ⊥) → mapAt (bytes (linkBlocks img bs mark)) c ≡ mapAt (bytes img) c
+pub link-off : (img bs : List ℕ) (mark i : ℕ) → Off bs i → bytes (linkBlocks img bs mark) i ≡ bytes img i
 unfolding linkBlocks
-link-other img [] mark c n = refl
-link-other img (b ∷ bs) mark c n = link-other (setMap img b (firstOr bs mark)) bs mark c (λ i. n (inr i)) ∙ map-other img b (firstOr bs mark) c (λ e. n (inl e))
+link-off img [] mark i o = refl
+link-off img (b ∷ bs) mark i o = link-off (setMap img b (firstOr bs mark)) bs mark i (λ x k. o x (inr k)) ∙ set-off img b (firstOr bs mark) i (o b (inl refl))
+
+pub link-other : (img bs : List ℕ) (mark c : ℕ) → (In c bs → ⊥) → mapAt (bytes (linkBlocks img bs mark)) c ≡ mapAt (bytes img) c
+link-other img bs mark c n = number-cong 2 (bytes img) (bytes (linkBlocks img bs mark)) (mapOffset c) (λ i x y. link-off img bs mark i (off-other bs c i n x y))
 
 pub link-outside : (img bs : List ℕ) (mark n i : ℕ) → ((b : ℕ) → In b bs → b < n) → Outside n i → bytes (linkBlocks img bs mark) i ≡ bytes img i
-unfolding linkBlocks
-link-outside img [] mark n i h o = refl
-link-outside img (b ∷ bs) mark n i h o =
-    link-outside (setMap img b (firstOr bs mark)) bs mark n i (λ x k. h x (inr k)) o ∙ set-outside img b (firstOr bs mark) n i (h b (inl refl)) o
+link-outside img bs mark n i h o = link-off img bs mark i (off-outside bs n i h o)
 
 pub first-below : (bs : List ℕ) (mark n top : ℕ) → ((b : ℕ) → In b bs → b < n) → n ≤ top → mark < top → firstOr bs mark < top
 unfolding firstOr
@@ -89,15 +93,16 @@ unfolding freeAll
 length-free img [] = refl
 length-free img (b ∷ bs) = length-free (setMap img b 0) bs ∙ length-set-map img b 0
 
-pub free-other : (img bs : List ℕ) (c : ℕ) → (In c bs → ⊥) → mapAt (bytes (freeAll img bs)) c ≡ mapAt (bytes img) c
+pub free-off : (img bs : List ℕ) (i : ℕ) → Off bs i → bytes (freeAll img bs) i ≡ bytes img i
 unfolding freeAll
-free-other img [] c n = refl
-free-other img (b ∷ bs) c n = free-other (setMap img b 0) bs c (λ i. n (inr i)) ∙ map-other img b 0 c (λ e. n (inl e))
+free-off img [] i o = refl
+free-off img (b ∷ bs) i o = free-off (setMap img b 0) bs i (λ x k. o x (inr k)) ∙ set-off img b 0 i (o b (inl refl))
+
+pub free-other : (img bs : List ℕ) (c : ℕ) → (In c bs → ⊥) → mapAt (bytes (freeAll img bs)) c ≡ mapAt (bytes img) c
+free-other img bs c n = number-cong 2 (bytes img) (bytes (freeAll img bs)) (mapOffset c) (λ i x y. free-off img bs i (off-other bs c i n x y))
 
 pub free-outside : (img bs : List ℕ) (n i : ℕ) → ((b : ℕ) → In b bs → b < n) → Outside n i → bytes (freeAll img bs) i ≡ bytes img i
-unfolding freeAll
-free-outside img [] n i h o = refl
-free-outside img (b ∷ bs) n i h o = free-outside (setMap img b 0) bs n i (λ x k. h x (inr k)) o ∙ set-outside img b 0 n i (h b (inl refl)) o
+free-outside img bs n i h o = free-off img bs i (off-outside bs n i h o)
 
 -- freed blocks hold 0
 pub free-zero : (img bs : List ℕ) (n c : ℕ) → ((b : ℕ) → In b bs → b < n) → mapOffset n ≤ length img → In c bs → mapAt (bytes (freeAll img bs)) c ≡ 0

@@ -4,4 +4,5 @@ pub mod Granted
 pub mod Update
 pub mod Step
 pub mod Others
+pub mod Outside
 pub mod Download

@@ -92,7 +92,7 @@ module _ (l : Layout) (right : LayoutRight l) (img : List ℕ) (rules : DiskRule
         let w = at→ (λ t. named name (filesIn l img t)) 0 (l .slots) s (granted-name l (filesIn l img) name s granted) in
         (omega (arith, w .1), named-used l (viewOf l (bytes img)) name s (omega (arith, w .1)) (w .2))
 
-    remove-inside : (b : ℕ) → In b (entryChain (mapAt (bytes img)) (entryAt (bytes img) (slotOffset l s))) → Data l b
+    pub remove-inside : (b : ℕ) → In b (entryChain (mapAt (bytes img)) (entryAt (bytes img) (slotOffset l s))) → Data l b
     remove-inside b i = owned-data l right (viewOf l (bytes img)) (rules .valid) s b (remove-slot, i)
 
     remove-effect : Removed l (viewOf l (bytes img)) s (viewOf l (bytes (removeImage l img s)))
@@ -152,7 +152,7 @@ module _ (l : Layout) (right : LayoutRight l) (img : List ℕ) (rules : DiskRule
     unfolding chosen freeBlocks
     chosen-free b i = in-free (mapAt (bytes img)) (l .first) (l .blocks - l .first) b (in-take (blocksFor (length content)) (freeBlocks l (mapAt (bytes img))) b i)
 
-    chosen-inside : (b : ℕ) → In b ks → Data l b
+    pub chosen-inside : (b : ℕ) → In b ks → Data l b
     chosen-inside b i = let r = chosen-free b i in (r .0, omega (arith, r .1, right .data-some))
 
     chosen-distinct : Distinct ks

@@ -5,4 +5,5 @@ pub mod Exactly
 pub mod Head
 pub mod Demand
 pub mod Refused
+pub mod Outside
 pub mod Small

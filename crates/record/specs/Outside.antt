@@ -1,0 +1,99 @@
+-- Nothing else in the image changes (document 01, "Calls on an accepted disk"): which bytes a call touches, that it keeps every other, and where they lie.
+-- By cases on the call and on the record's judgement; blocks that are taken or freed are data blocks. Assumes nothing.
+use mathlib.Core.Path.{_≡_, refl}
+use mathlib.Core.List.{List}
+use mathlib.Core.Logic.{_⊎_, inl, inr}
+use Prim.Native.Nat.{ℕ, _+_, _≤_, _<_}
+use native.Mathlib.Omega.{arith}
+use Rattle.laws.specs.Reader.{bytes}
+use Rattle.layout.specs.declared.Layout.{Layout}
+use Rattle.layout.specs.Layouts.{slotOffset, blockOffset}
+use Rattle.layout.specs.Right.{LayoutRight, DirectoryApart}
+use Rattle.map.specs.Map.{Data}
+use Rattle.map.specs.Linking.{Outside}
+use Rattle.image.specs.Image.{filesIn, DiskRules}
+use Rattle.image.specs.Outside.{Within, InEntry, InMap, InBlock, RemoveTouches, PutTouches, remove-outside, put-outside}
+use Rattle.record.specs.Record.{Call, check, list, find, page, put, remove, judgeName, judgePut}
+use Rattle.record.specs.declared.Judged.{Judged}
+use Rattle.record.specs.declared.Judged.the-variants.{Refuse, Grant}
+use Rattle.record.specs.Granted.{granted-put}
+use Rattle.record.specs.Update.{remove-slot, remove-inside, put-slot, chosen-inside}
+use Rattle.record.specs.Step.{imageAfter}
+
+-- A call that only reads or is refused touches no byte, and a granted put or remove those of the slot granted.
+abbrev pub Touches : Layout → List ℕ → Call → ℕ → Type 0
+Touches l img check i = ⊥
+Touches l img (list s) i = ⊥
+Touches l img (find name) i = ⊥
+Touches l img (page s offset out) i = ⊥
+Touches l img (put name type content) i = (s : ℕ) × (judgePut l (filesIn l img) name type content ≡ Grant s) × PutTouches l img s content i
+Touches l img (remove name) i = (s : ℕ) × (judgeName l (filesIn l img) name ≡ Grant s) × RemoveTouches l img s i
+
+-- Whatever the call, these are bytes of entries, map values of data blocks, and data blocks.
+abbrev pub Changeable : Layout → ℕ → Type 0
+Changeable l i = ((s : ℕ) × (s < l .slots) × InEntry l s i) ⊎ ((b : ℕ) × Data l b × InMap b i) ⊎ ((b : ℕ) × Data l b × InBlock b i)
+
+module _ (l : Layout) (right : LayoutRight l) where
+  module _ (img : List ℕ) (i : ℕ) where
+    -- all else stays
+    pub step-outside : (c : Call) → (Touches l img c i → ⊥) → bytes (imageAfter l img c) i ≡ bytes img i
+    unfolding imageAfter
+    step-outside check out = refl
+    step-outside (list s) out = refl
+    step-outside (find name) out = refl
+    step-outside (page s offset o) out = refl
+    step-outside (put name type content) out = go (judgePut l (filesIn l img) name type content) refl
+      where
+        go : (j : Judged) → judgePut l (filesIn l img) name type content ≡ j → bytes (imageAfter l img (put name type content)) i ≡ bytes img i
+        go (Refuse r) e = rw e refl
+        go (Grant s) e = rw e (put-outside l img s right name (granted-put l (filesIn l img) name type content s e .name-legal) type content i (λ p. out (s, e, p)))
+    step-outside (remove name) out = go (judgeName l (filesIn l img) name) refl
+      where
+        go : (j : Judged) → judgeName l (filesIn l img) name ≡ j → bytes (imageAfter l img (remove name)) i ≡ bytes img i
+        go (Refuse r) e = rw e refl
+        go (Grant s) e = rw e (remove-outside l img s i (λ p. out (s, e, p)))
+
+    module _ (rules : DiskRules l img) where
+      put-where : (name : List ℕ) (type : ℕ) (content : List ℕ) (s : ℕ) → judgePut l (filesIn l img) name type content ≡ Grant s → PutTouches l img s content i → Changeable l i
+      put-where name type content s e (inl p) = inl (s, put-slot l right img rules name type content s e .0, p)
+      put-where name type content s e (inr (inl p)) = inr (inl (p .0, chosen-inside l right img rules name type content s e (p .0) (p .1), p .2))
+      put-where name type content s e (inr (inr p)) = inr (inr (p .0, chosen-inside l right img rules name type content s e (p .0) (p .1), p .2))
+
+      remove-where : (name : List ℕ) (s : ℕ) → judgeName l (filesIn l img) name ≡ Grant s → RemoveTouches l img s i → Changeable l i
+      remove-where name s e (inl p) = inl (s, remove-slot l right img rules name s e .0, p)
+      remove-where name s e (inr p) = inr (inl (p .0, remove-inside l right img rules name s e (p .0) (p .1), p .2))
+
+      pub touches-where : (c : Call) → Touches l img c i → Changeable l i
+      touches-where check t = absurd t
+      touches-where (list s) t = absurd t
+      touches-where (find name) t = absurd t
+      touches-where (page s offset o) t = absurd t
+      touches-where (put name type content) t = put-where name type content (t .0) (t .1) (t .2)
+      touches-where (remove name) t = remove-where name (t .0) (t .1) (t .2)
+
+  -- ---- what no call changes
+
+  -- a system byte outside directory and map
+  pub system-fixed : (i : ℕ) → i < blockOffset (l .first) → Outside (l .blocks) i → (i < l .directory) ⊎ (slotOffset l (l .slots) ≤ i) → Changeable l i → ⊥
+  system-fixed i h o (inl q) (inl e) = omega (arith, e .2 .0)
+  system-fixed i h o (inr q) (inl e) = omega (arith, e .1, e .2 .1)
+  system-fixed i h (inl o) q (inr (inl e)) = omega (arith, e .2 .0)
+  system-fixed i h (inr o) q (inr (inl e)) = omega (arith, e .1 .1, e .2 .1)
+  system-fixed i h o q (inr (inr e)) = omega (arith, e .1 .0, e .2 .0)
+
+  -- a byte of a slot lies in no map value
+  slot-apart : (s b i : ℕ) → DirectoryApart l → s < l .slots → Within (slotOffset l s) 24 i → b < l .blocks → InMap b i → ⊥
+  slot-apart s b i (inl a) h p k q = omega (arith, p .1, q .0)
+  slot-apart s b i (inr a) h p k q = omega (arith, p .0, q .1)
+
+  -- a slot's identity
+  pub identity-fixed : (s i : ℕ) → s < l .slots → Within (slotOffset l s + 22) 2 i → Changeable l i → ⊥
+  identity-fixed s i h p (inl e) = omega (arith, p .0, p .1, e .2 .0, e .2 .1)
+  identity-fixed s i h p (inr (inl e)) = slot-apart s (e .0) i (right .directory-apart) h (omega (arith, p .0), omega (arith, p .1)) (e .1 .1) (e .2)
+  identity-fixed s i h p (inr (inr e)) = omega (arith, right .directory-low, p .1, e .1 .0, e .2 .0)
+
+  -- a system block's map value
+  pub reserved-fixed : (b i : ℕ) → b < l .first → InMap b i → Changeable l i → ⊥
+  reserved-fixed b i h p (inl e) = slot-apart (e .0) b i (right .directory-apart) (e .1) (e .2 .0, omega (arith, e .2 .1)) (omega (arith, right .data-some)) p
+  reserved-fixed b i h p (inr (inl e)) = omega (arith, p .1, e .1 .0, e .2 .0)
+  reserved-fixed b i h p (inr (inr e)) = omega (arith, right .map-low, right .data-some, p .1, e .1 .0, e .2 .0)
