@@ -1,4 +1,4 @@
-// The map: its values, the walk of a chain, lists of blocks, and what put and remove do to it.
+// The map: its values, the blocks of a chain, lists of blocks, and what put and remove do to it.
 // Only the crates above call these. `Fits` is met by the image's checked length, `Chained` by the check's walk of that chain.
 ghost use mathlib.Core.Path.{_≡_};
 ghost use Prim.Native.Nat.{ℕ, _+_, _≤_, _<_};
@@ -7,7 +7,7 @@ ghost use Rattle.laws.specs.Reader.{bytes};
 ghost use Rattle.laws.specs.Member.{In};
 ghost use Rattle.layout.specs.Right.{LayoutRight};
 ghost use Rattle.layout.specs.Layouts.{mapOffset};
-ghost use Rattle.map.specs.Map.{mapAt, Fits, isLink, chain, Chained, Nth, walk, freeBlocks, Collected, setMap, firstOr, linkBlocks, freeAll, touched, marked};
+ghost use Rattle.map.specs.Map.{mapAt, Fits, isLink, chain, Chained, Nth, freeBlocks, Collected, setMap, firstOr, linkBlocks, freeAll, touched, marked};
 
 // How the walk of a chain ends: faultless, at what is no link and no end mark (refusal 6), or at the wrong length (7).
 pub enum Walk {
@@ -46,33 +46,6 @@ pub fn is_link(layout: layout::Layout, value: usize) -> bool
         return false;
     }
     value < layout.blocks
-}
-
-// Walks the chain from a start with so many links, to its first fault. The check has this walk within its loop over the slots (chains).
-pub fn walk_chain(image: &[u8], layout: layout::Layout, links: usize, start: usize) -> Walk
-    requires { ⌜ Fits layout (now image) ⌝ }
-    ensures { λ r. ⌜ r ≡ walk layout (mapAt (bytes (now (image .entry)))) links start ⌝ }
-{
-    let mark = layout.mark;
-    let mut block = start;
-    let mut left = links;
-    loop {
-        if !is_link(layout, block) {
-            return Walk::Bad;
-        }
-        let value = map_at(image, block);
-        if left == 0 {
-            if value == mark {
-                return Walk::Whole;
-            }
-            return Walk::Cut;
-        }
-        if value == mark {
-            return Walk::Cut;
-        }
-        block = value;
-        left -= 1;
-    }
 }
 
 // A block of a faultless chain, counted from 0.
