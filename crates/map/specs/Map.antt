@@ -13,8 +13,6 @@ use Rattle.laws.specs.Splice.{splice}
 use Rattle.layout.specs.declared.Layout.{Layout}
 use Rattle.layout.specs.Layouts.{mapOffset}
 use Rattle.blocks.specs.Numbers.{number, digits}
-use Rattle.map.specs.declared.Walk.{Walk}
-use Rattle.map.specs.declared.Walk.the-variants.{Whole, Bad, Cut}
 use Rattle.map.specs.declared.Blocks.{Blocks}
 
 -- The map value of a block.
@@ -53,6 +51,12 @@ Astray l m (suc links) block = (Data l block → ⊥) ⊎ (Data l block × (m bl
 unfoldable pub Miscounted : Layout → (ℕ → ℕ) → ℕ → ℕ → Type 0
 Miscounted l m zero block = Data l block × (m block ≡ l .mark → ⊥)
 Miscounted l m (suc links) block = Data l block × ((m block ≡ l .mark) ⊎ Miscounted l m links (m block))
+
+-- How the walk of a chain ends: faultless, at what is no link and no end mark (refusal 6), or at the wrong length (7).
+pub data Walk : Type 0 where
+  Whole : Walk
+  Bad : Walk
+  Cut : Walk
 
 -- The same walked from the start to the first fault. A start or a value that is no link is Bad; the end mark too early, and
 -- anything else at the last block, is Cut.

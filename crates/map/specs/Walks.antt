@@ -11,9 +11,7 @@ use borrow.Author.Tests.{eqb-true, eqb-false, eq-eqb, ne-eqb, leb-true, ltb-true
 use Rattle.laws.specs.Truth.{pick, both-true, true-both, clash, false-if}
 use Rattle.layout.specs.declared.Layout.{Layout}
 use Rattle.layout.specs.Right.{LayoutRight}
-use Rattle.map.specs.declared.Walk.{Walk}
-use Rattle.map.specs.declared.Walk.the-variants.{Whole, Bad, Cut}
-use Rattle.map.specs.Map.{Data, Chained, Astray, Miscounted, isLink, walk, isWhole}
+use Rattle.map.specs.Map.{Data, Chained, Astray, Miscounted, isLink, Walk, Whole, Bad, Cut, walk, isWhole}
 use Rattle.map.specs.Chains.{chained-first}
 
 -- ---- links

@@ -9,13 +9,6 @@ ghost use Rattle.layout.specs.Right.{LayoutRight};
 ghost use Rattle.layout.specs.Layouts.{mapOffset};
 ghost use Rattle.map.specs.Map.{mapAt, Fits, isLink, chain, Chained, Nth, freeBlocks, Collected, setMap, firstOr, linkBlocks, freeAll, touched, marked};
 
-// How the walk of a chain ends: faultless, at what is no link and no end mark (refusal 6), or at the wrong length (7).
-pub enum Walk {
-    Whole,
-    Bad,
-    Cut,
-}
-
 // Blocks: the first `count` of the list.
 pub struct Blocks {
     pub list: [u16; 1600],

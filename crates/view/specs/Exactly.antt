@@ -19,9 +19,7 @@ use Rattle.laws.specs.Member.{In, has, in-has, out-has, decIn}
 use Rattle.layout.specs.declared.Layout.{Layout}
 use Rattle.layout.specs.Right.{LayoutRight}
 use Rattle.blocks.specs.Blocks.{linksFor}
-use Rattle.map.specs.declared.Walk.{Walk}
-use Rattle.map.specs.declared.Walk.the-variants.{Whole, Bad, Cut}
-use Rattle.map.specs.Map.{Data, Chained, Astray, Miscounted, isWhole, faultOf}
+use Rattle.map.specs.Map.{Walk, Whole, Bad, Cut, Data, Chained, Astray, Miscounted, isWhole, faultOf}
 use Rattle.map.specs.Walks.{walk-chained, chained-walk, walk-astray, walk-miscounted, astray-walk, miscounted-walk}
 use Rattle.view.specs.declared.Ruled.{Ruled}
 use Rattle.view.specs.declared.Ruled.the-variants.{Pass, Fail}

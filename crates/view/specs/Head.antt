@@ -14,8 +14,7 @@ use Rattle.laws.specs.Lists.{meets}
 use Rattle.layout.specs.declared.Layout.{Layout}
 use Rattle.layout.specs.Right.{LayoutRight}
 use Rattle.blocks.specs.Blocks.{linksFor}
-use Rattle.map.specs.declared.Walk.{Walk}
-use Rattle.map.specs.Map.{isWhole, faultOf}
+use Rattle.map.specs.Map.{Walk, isWhole, faultOf}
 use Rattle.map.specs.Chains.{chain-cong, chain-data}
 use Rattle.map.specs.Walks.{walk-cong, walk-chained, whole-is}
 use Rattle.view.specs.declared.Ruled.{Ruled}

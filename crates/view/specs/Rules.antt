@@ -11,8 +11,7 @@ use Rattle.laws.specs.Lists.{same, meets}
 use Rattle.laws.specs.Member.{has}
 use Rattle.layout.specs.declared.Layout.{Layout}
 use Rattle.blocks.specs.Blocks.{linksFor}
-use Rattle.map.specs.declared.Walk.{Walk}
-use Rattle.map.specs.Map.{walk, isWhole, faultOf}
+use Rattle.map.specs.Map.{Walk, walk, isWhole, faultOf}
 use Rattle.view.specs.declared.Ruled.{Ruled}
 use Rattle.view.specs.declared.Ruled.the-variants.{Pass, Fail}
 use Rattle.view.specs.Disk.{View, used, formed, chainOf, owned}

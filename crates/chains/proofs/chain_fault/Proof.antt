@@ -15,9 +15,7 @@ use Rattle.laws.specs.declared.Lowest.the-variants.{At}
 use Rattle.layout.specs.declared.Layout.{Layout}
 use Rattle.layout.specs.Right.{LayoutRight}
 use Rattle.blocks.specs.Blocks.{linksFor}
-use Rattle.map.specs.declared.Walk.{Walk}
-use Rattle.map.specs.declared.Walk.the-variants.{Whole, Bad, Cut}
-use Rattle.map.specs.Map.{mapAt, isLink, chain, Chained, walk, isWhole, faultOf, marked}
+use Rattle.map.specs.Map.{mapAt, isLink, chain, Chained, Walk, Whole, Bad, Cut, walk, isWhole, faultOf, marked}
 use Rattle.map.specs.Chains.{chain-data}
 use Rattle.map.specs.Marks.{Marks, marks-none, mark-last, mark-next}
 use Rattle.map.specs.Walks.{link-data, walk-chained, walk-bad, walk-whole, walk-over, walk-cut, walk-on}
