@@ -15,7 +15,7 @@ ghost use Rattle.map.specs.Marks.{Marks};
 ghost use Rattle.view.specs.Disk.{owned};
 ghost use Rattle.view.specs.Rules.{badSystem, broken, sharing, stray};
 ghost use Rattle.image.specs.Image.{viewOf};
-ghost use Rattle.chains.specs.Passes.{Followed};
+ghost use Rattle.chains.specs.Passes.{Followed, chainRules};
 ghost use Rattle.chains.specs.Tally.{taken};
 
 // The lowest system block that doesn't hold the system value (refusal 3).
@@ -49,7 +49,7 @@ fn links_of(head: &[u8], layout: layout::Layout, slot: usize) -> usize
 
 // The lowest slot whose chain has a fault, refused by the chain's first one (6 or 7). The marks are left as those of all chains where
 // there is none.
-pub fn chain_fault(head: &[u8], layout: layout::Layout, marks: &mut [bool; 1600]) -> view::Ruled
+fn chain_fault(head: &[u8], layout: layout::Layout, marks: &mut [bool; 1600]) -> view::Ruled
     requires { ⌜ LayoutRight layout × (blockOffset (layout .first) ≤ length (now head)) × (now marks ≡ replicate 1600 false) ⌝ }
     ensures { λ r. ⌜ Followed layout (viewOf layout (bytes (now (head .entry)))) (now (marks .exit)) r ⌝ }
 {
@@ -110,7 +110,7 @@ fn count_chained(head: &[u8], layout: layout::Layout) -> usize
 }
 
 // How many data blocks are marked. Counted in 16 bits, so that the compiler adds eight at a time.
-pub fn count_marked(layout: layout::Layout, marks: &[bool; 1600]) -> usize
+fn count_marked(layout: layout::Layout, marks: &[bool; 1600]) -> usize
     requires { ⌜ LayoutRight layout ⌝ }
     ensures { λ r. ⌜ r ≡ count (λ b. getD (now (marks .entry)) b false) (layout .first) (layout .blocks - layout .first) ⌝ }
 {
@@ -151,7 +151,7 @@ fn share_fault(head: &[u8], layout: layout::Layout, marks: &mut [bool; 1600]) ->
 }
 
 // The lowest slot whose chain shares a block with a lower slot's (refusal 8). Where as many blocks are marked as the chains have, there is none.
-pub fn shared_slot(head: &[u8], layout: layout::Layout, marked: usize) -> laws::Lowest
+fn shared_slot(head: &[u8], layout: layout::Layout, marked: usize) -> laws::Lowest
     requires { ⌜ LayoutRight layout × (blockOffset (layout .first) ≤ length (now head)) × (lowest (broken layout (viewOf layout (bytes (now head)))) 0 (layout .slots) ≡ Nowhere) × (marked ≡ taken layout (viewOf layout (bytes (now head)))) ⌝ }
     ensures { λ r. ⌜ r ≡ lowest (sharing layout (viewOf layout (bytes (now (head .entry))))) 0 (layout .slots) ⌝ }
 {
@@ -208,7 +208,7 @@ pub fn count_free(head: &[u8], layout: layout::Layout) -> usize
 }
 
 // The lowest data block with a nonzero map value that is on no chain (refusal 9). Where the marked and the free blocks are all, there is none.
-pub fn stray_block(
+fn stray_block(
     head: &[u8],
     layout: layout::Layout,
     marks: &[bool; 1600],
@@ -222,4 +222,32 @@ pub fn stray_block(
         return laws::Lowest::Nowhere;
     }
     stray_fault(head, layout, marks)
+}
+
+// Refusals 6 to 9: the chains, then what they share, then blocks on none of them.
+pub fn chain_rules(head: &[u8], layout: layout::Layout) -> view::Ruled
+    requires { ⌜ LayoutRight layout × (blockOffset (layout .first) ≤ length (now head)) ⌝ }
+    ensures { λ r. ⌜ r ≡ chainRules layout (viewOf layout (bytes (now (head .entry)))) ⌝ }
+{
+    let mut marks = [false; 1600];
+    let fault = chain_fault(head, layout, &mut marks);
+    let view::Ruled::Pass = fault else {
+        return fault;
+    };
+    let marked = count_marked(layout, &marks);
+    let shared = shared_slot(head, layout, marked);
+    if let laws::Lowest::At(slot) = shared {
+        return view::Ruled::Fail(laws::Refusal {
+            number: 8,
+            place: slot,
+        });
+    }
+    let stray = stray_block(head, layout, &marks, marked);
+    if let laws::Lowest::At(block) = stray {
+        return view::Ruled::Fail(laws::Refusal {
+            number: 9,
+            place: block,
+        });
+    }
+    view::Ruled::Pass
 }

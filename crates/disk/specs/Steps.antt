@@ -4,7 +4,7 @@ use mathlib.Core.Path.{_≡_, refl, sym, _∙_}
 use mathlib.Core.Bool.{Bool, true, false}
 use mathlib.Core.List.{List}
 use mathlib.Core.Option.{none}
-use Prim.Native.Nat.{ℕ, _-_, _≤_, _<_, min}
+use Prim.Native.Nat.{ℕ, _≤_, _<_, min}
 use native.Mathlib.Omega.{arith}
 use lib.Dec.{ltb, eqb}
 use lib.ListN.{length}
@@ -21,65 +21,23 @@ use Rattle.layout.specs.declared.Density.the-variants.{Low, High}
 use Rattle.layout.specs.declared.Layout.{Layout}
 use Rattle.layout.specs.Layouts.{layoutOf, lengthOf, blockOffset, slotOffset}
 use Rattle.layout.specs.Right.{LayoutRight, layout-right}
-use Rattle.map.specs.Map.{mapAt, freeCount, faultOf}
+use Rattle.map.specs.Map.{mapAt, freeCount}
 use Rattle.view.specs.declared.Ruled.{Ruled}
 use Rattle.view.specs.declared.Ruled.the-variants.{Pass, Fail}
 use Rattle.view.specs.Disk.{View}
 use Rattle.laws.specs.declared.Refusal.{Refusal}
 use Rattle.laws.specs.Refusals.{refusalAt}
-use Rattle.view.specs.Rules.{orFail, walkOf, broken, sharing, stray, rules, badSystem, malformed, repeated}
+use Rattle.view.specs.Rules.{rules, badSystem, malformed, repeated}
 use Rattle.rules.specs.declared.Checked.the-variants.{Accepted, Refused}
 use Rattle.rules.specs.Check.{densityOf, hasIdentity, kindOf, usedCount, checkAs, checkKinds, checkHead, checkStart}
 use Rattle.rules.specs.Steps.{kinds-none, kinds-some, as-passed, as-failed}
 use Rattle.rules.specs.Head.{head-holds}
 use Rattle.image.specs.Image.{viewOf}
+use Rattle.chains.specs.Passes.{chainRules}
 
--- Refusals 6 to 9.
-unfoldable pub chainRules : Layout → View → Ruled
-unfolding lowest broken sharing stray walkOf
-chainRules l v =
-    orFail (λ s. faultOf (walkOf l v s)) (lowest (broken l v) 0 (l .slots))
-    (orFail (λ s. 8) (lowest (sharing l v) 0 (l .slots))
-    (orFail (λ b. 9) (lowest (stray l v) (l .first) (l .blocks - l .first))
-    Pass))
-
--- ---- refusals 6 to 9, r being what the code's pass found
-
-fault-stop : (f : ℕ → ℕ) (x : Lowest) (next : Ruled) {r : Ruled} {w : Refusal} → r ≡ orFail f x Pass → r ≡ Fail w → r ≡ orFail f x next
-fault-stop f (At k) next e t = e
-fault-stop f Nowhere next e t = absurd (let z : _≡_ {A = ℕ} 0 1 = cc in omega arith)
-
-fault-none : (f : ℕ → ℕ) (w : Lowest) {r : Ruled} → r ≡ orFail f w Pass → r ≡ Pass → w ≡ Nowhere
-fault-none f (At k) e t = absurd (let z : _≡_ {A = ℕ} 0 1 = cc in omega arith)
-fault-none f Nowhere e t = refl
+-- ---- refusals 3 to 5
 
 module _ (l : Layout) (v : View) where
-  abbrev Chains : Ruled → Type 0
-  Chains r = r ≡ orFail (λ s. faultOf (walkOf l v s)) (lowest (broken l v) 0 (l .slots)) Pass
-
-  pub chain-faulty : {r : Ruled} {w : Refusal} → Chains r → r ≡ Fail w → r ≡ chainRules l v
-  unfolding chainRules
-  chain-faulty e t = fault-stop (λ s. faultOf (walkOf l v s)) (lowest (broken l v) 0 (l .slots)) _ e t
-
-  pub chain-clean : {r : Ruled} → Chains r → r ≡ Pass → lowest (broken l v) 0 (l .slots) ≡ Nowhere
-  chain-clean e t = fault-none (λ s. faultOf (walkOf l v s)) (lowest (broken l v) 0 (l .slots)) e t
-
-  module _ (clean : lowest (broken l v) 0 (l .slots) ≡ Nowhere) {shared : Lowest} (claims : shared ≡ lowest (sharing l v) 0 (l .slots)) where
-    pub chain-shared : {s : ℕ} → shared ≡ At s → Fail (refusalAt 8 s) ≡ chainRules l v
-    unfolding chainRules
-    chain-shared t = rw (clean, ← claims, t) refl
-
-    module _ (apart : shared ≡ Nowhere) {found : Lowest} (strays : found ≡ lowest (stray l v) (l .first) (l .blocks - l .first)) where
-      pub chain-stray : {b : ℕ} → found ≡ At b → Fail (refusalAt 9 b) ≡ chainRules l v
-      unfolding chainRules
-      chain-stray t = rw (clean, ← claims, apart, ← strays, t) refl
-
-      pub chain-pass : found ≡ Nowhere → Pass ≡ chainRules l v
-      unfolding chainRules
-      chain-pass t = rw (clean, ← claims, apart, ← strays, t) refl
-
-  -- ---- refusals 3 to 5
-
   module _ {system : Lowest} (first : system ≡ lowest (badSystem l v) 0 (l .system)) where
     pub rules-system : {k : ℕ} → system ≡ At k → Fail (refusalAt 3 k) ≡ rules l v
     unfolding rules

@@ -8,35 +8,6 @@ ghost use Rattle.layout.specs.Right.{LayoutRight};
 ghost use Rattle.view.specs.Rules.{rules};
 ghost use Rattle.image.specs.Image.{viewOf};
 ghost use Rattle.rules.specs.Check.{checkAs, checkKinds, checkOf, checkStart};
-ghost use Rattle.disk.specs.Steps.{chainRules};
-
-// Refusals 6 to 9: the chains, then what they share, then blocks on none of them.
-fn chain_rules(head: &[u8], layout: layout::Layout) -> view::Ruled
-    requires { ⌜ LayoutRight layout × (blockOffset (layout .first) ≤ length (now head)) ⌝ }
-    ensures { λ r. ⌜ r ≡ chainRules layout (viewOf layout (bytes (now (head .entry)))) ⌝ }
-{
-    let mut marks = [false; 1600];
-    let fault = chains::chain_fault(head, layout, &mut marks);
-    let view::Ruled::Pass = fault else {
-        return fault;
-    };
-    let marked = chains::count_marked(layout, &marks);
-    let shared = chains::shared_slot(head, layout, marked);
-    if let laws::Lowest::At(slot) = shared {
-        return view::Ruled::Fail(laws::Refusal {
-            number: 8,
-            place: slot,
-        });
-    }
-    let stray = chains::stray_block(head, layout, &marks, marked);
-    if let laws::Lowest::At(block) = stray {
-        return view::Ruled::Fail(laws::Refusal {
-            number: 9,
-            place: block,
-        });
-    }
-    view::Ruled::Pass
-}
 
 // Refusals 3 to 9 of a layout.
 fn disk_rules(head: &[u8], layout: layout::Layout) -> view::Ruled
@@ -64,7 +35,7 @@ fn disk_rules(head: &[u8], layout: layout::Layout) -> view::Ruled
             place: slot,
         });
     }
-    chain_rules(head, layout)
+    chains::chain_rules(head, layout)
 }
 
 // The check of an image of a known kind and density.

@@ -1,4 +1,4 @@
--- `disk::chain_rules` meets its contract: the chains' fault, else the lowest sharing slot, else the lowest stray block.
+-- `chains::chain_rules` meets its contract: the chains' fault, else the lowest sharing slot, else the lowest stray block.
 -- Each pass's answer decides the cascade's next step; the marked blocks are those on chains. Assumes nothing.
 use mathlib.Core.Path.{_≡_, refl, _∙_}
 use denote.Ref.{now}
@@ -8,10 +8,10 @@ use Rattle.laws.specs.Scan.{lowest}
 use Rattle.laws.specs.declared.Lowest.the-variants.{Nowhere}
 use Rattle.view.specs.Rules.{broken}
 use Rattle.image.specs.Image.{viewOf}
 use Rattle.chains.specs.Tally.{taken, marks-taken}
-use Rattle.disk.specs.Steps.{chain-faulty, chain-clean, chain-shared, chain-stray, chain-pass}
-use Rattle.disk.proofs.chain_rules.Statement.{statement}
-use Rattle.disk.proofs.chain_rules.Tie as tie
+use Rattle.chains.specs.Passes.{chain-faulty, chain-clean, chain-shared, chain-stray, chain-pass}
+use Rattle.chains.proofs.chain_rules.Statement.{statement}
+use Rattle.chains.proofs.chain_rules.Tie as tie
 
 chain-fault-requires : tie.Need-chain-fault-requires
 chain-fault-requires c κs = let p = c .before .before .pre in (p .0, p .1, refl)
