@@ -1,32 +1,38 @@
--- A loop that collects blocks in an array: those in it and those still to come are all of them.
--- By the library's laws of `take` and `set`. Assumes nothing.
+-- A loop that collects blocks in an array: were those still to come written after those in it, it would hold all of them.
+-- A write of blocks stores the first and then the others, and none that is to come leaves the array. Assumes nothing.
 use mathlib.Core.Path.{_≡_, refl, sym, ap, _∙_}
-use mathlib.Core.List.{List, [], _∷_, _++_, append-nil}
+use mathlib.Core.List.{List, [], _∷_}
 use Prim.Native.Nat.{ℕ, suc, _+_, _-_, _≤_, _<_}
+use native.Mathlib.Nat.{zero-add}
 use native.Mathlib.Numerals.{add-one}
 use native.Mathlib.Omega.{arith}
-use lib.ListN.{length, take, set, length-set}
-use lib.Seq.{take-nil, take-suc-set, append-snoc, length-take-le}
+use lib.ListN.{length, take, set, replicate}
+use lib.Seq.{take-nil}
+use Rattle.laws.specs.Splice.{splice}
+use Rattle.laws.specs.Padded.{splice-zeros}
 use Rattle.map.specs.declared.Blocks.{Blocks}
 use Rattle.map.specs.Map.{Collected, freeFrom}
 use Rattle.map.specs.Free.{free-end, free-stop, free-on}
 
+-- n of all blocks are in the list, which was `zeros` at first, and the rest is to come
+pub record Collecting (zeros all list rest : List ℕ) (n : ℕ) : Type 0 where
+  pub count : n + length rest ≡ length all
+  pub whole : splice list n rest ≡ splice zeros 0 all
+
+pub collect-none : (zeros all : List ℕ) {rest : List ℕ} → rest ≡ all → Collecting zeros all zeros rest 0
+collect-none zeros all e = rw e (record { count = zero-add (length all); whole = refl })
+
 -- one block more, at index n
-pub collect-one : (list : List ℕ) (n b : ℕ) {rest tail all : List ℕ} → n < length list → tail ≡ b ∷ rest → take n list ++ tail ≡ all
-    → take (n + 1) (set list n b) ++ rest ≡ all
-collect-one list n b {rest} h t e =
-    rw (add-one n, take-suc-set list n b h) (append-snoc (take n list) b rest ∙ ap (λ (x : List ℕ). take n list ++ x) (sym t) ∙ e)
+pub collect-one : (list : List ℕ) (n b : ℕ) {zeros all tail rest : List ℕ} → tail ≡ b ∷ rest → Collecting zeros all list tail n → Collecting zeros all (set list n b) rest (n + 1)
+unfolding splice
+collect-one list n b t c = record { count = omega (arith, ap length t, c .count); whole = rw add-one (ap (splice list n) (sym t) ∙ c .whole) }
 
 -- the end: none is to come
-pub collect-end : (r : Blocks) {rest all : List ℕ} → r .count ≤ length (r .list) → rest ≡ [] → take (r .count) (r .list) ++ rest ≡ all → Collected all r
-collect-end r h none e =
-    let whole = sym (append-nil (take (r .count) (r .list))) ∙ ap (λ (x : List ℕ). take (r .count) (r .list) ++ x) (sym none) ∙ e in
-    record { count = sym (length-take-le (r .count) (r .list) h) ∙ ap length whole; list = whole }
-
--- the last block, which the code stores after its loop
-pub collect-last : (list : List ℕ) (n k b : ℕ) {tail all : List ℕ} → k ≡ n → n < length list → tail ≡ b ∷ [] → take k list ++ tail ≡ all
-    → Collected all (record { list = set list n b; count = n + 1 })
-collect-last list n k b p h t e = collect-end (record { list = set list n b; count = n + 1 }) (simp length-set (omega arith)) refl (collect-one list n b h t (rw p at e))
+pub collect-end : (r : Blocks) {all rest : List ℕ} → r .count ≤ 1600 → rest ≡ [] → Collecting (replicate 1600 0) all (r .list) rest (r .count) → Collected all r
+unfolding splice
+collect-end r {all} h t c =
+    let few : length all ≤ 1600 = omega (arith, ap length t, c .count) in
+    record { few = few; count = omega (arith, ap length t, c .count); list = ap (splice (r .list) (r .count)) (sym t) ∙ c .whole ∙ splice-zeros 1600 all few }
 
 -- ---- the free blocks still to come, from block i on, where k of those wanted are there
 

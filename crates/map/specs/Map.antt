@@ -6,10 +6,11 @@ use mathlib.Core.List.{List, [], _∷_}
 use mathlib.Core.Logic.{_⊎_}
 use Prim.Native.Nat.{ℕ, zero, suc, _-_, _≤_, _<_}
 use lib.Dec.{leb, ltb, eqb}
-use lib.ListN.{length, take, getD, set}
+use lib.ListN.{length, getD, set}
 use Rattle.laws.specs.Truth.{pick, both}
 use Rattle.laws.specs.Scan.{over, count}
 use Rattle.laws.specs.Splice.{splice}
+use Rattle.laws.specs.Padded.{padded}
 use Rattle.layout.specs.declared.Layout.{Layout}
 use Rattle.layout.specs.Layouts.{mapOffset}
 use Rattle.blocks.specs.Numbers.{number, digits}
@@ -97,10 +98,11 @@ unfoldable pub freeCount : Layout → (ℕ → ℕ) → ℕ
 unfolding count
 freeCount l m = count (λ k. eqb (m k) 0) (l .first) (l .blocks - l .first)
 
--- What a function that collects blocks answers: these are the first of its list.
+-- What a function that collects blocks answers: these, and zeros in the rest of its list.
 pub record Collected (blocks : List ℕ) (r : Blocks) : Type 0 where
+  pub few : length blocks ≤ 1600
   pub count : r .count ≡ length blocks
-  pub list : take (r .count) (r .list) ≡ blocks
+  pub list : r .list ≡ padded blocks 1600
 
 -- ---- changes
 

@@ -1,23 +1,22 @@
--- `map::chain_blocks` meets its contract: the list's first k blocks and the rest of the chain are the whole chain.
+-- `map::chain_blocks` meets its contract: the k blocks in the list and the rest of the chain are the whole chain.
 -- A faultless chain is no longer than the data area, so the array holds it. Assumes nothing.
 use mathlib.Core.Path.{_≡_, refl}
-use mathlib.Core.List.{_++_}
 use Prim.Native.Nat.{_-_, _≤_, _<_}
 use native.Mathlib.Omega.{arith}
 use borrow.Author.Needs.{needs}
-use lib.ListN.{length, take, getD, length-set}
+use lib.ListN.{getD}
 use Rattle.laws.specs.Reader.{bytes}
 use Rattle.map.specs.Map.{mapAt, Data, chain}
 use Rattle.map.specs.Chains.{chain-short, nth-first, nth-data, nth-next}
 use Rattle.map.specs.Marks.{chain-last, chain-turn}
-use Rattle.map.specs.Collect.{collect-one, collect-last}
+use Rattle.map.specs.Collect.{Collecting, collect-none, collect-one, collect-end}
 use Rattle.map.proofs.chain_blocks.Statement.{statement}
 use Rattle.map.proofs.chain_blocks.Tie as tie
 
 abbrev Inv-loop : tie.InvT-loop
 Inv-loop image links start list₀ block₀ k₀ list block k =
-    (k ≤ links) × (length list ≡ 1600) × (block ≡ getD (chain (mapAt (bytes image)) links start) k 0)
-    × (take k list ++ chain (mapAt (bytes image)) (links - k) block ≡ chain (mapAt (bytes image)) links start)
+    (k ≤ links) × (block ≡ getD (chain (mapAt (bytes image)) links start) k 0)
+    × Collecting list₀ (chain (mapAt (bytes image)) links start) list (chain (mapAt (bytes image)) (links - k) block) k
 
 abbrev μ-loop : tie.MeasureT-loop
 μ-loop image links start list₀ block₀ k₀ list block k = links - k
@@ -33,7 +32,7 @@ inside : (c : tie.At-loop Inv-loop μ-loop) → Data (c .before .before .args .l
 inside c =
     let s = c .before .before in
     let a = s .args in
-    nth-data (a .layout) (mapAt (bytes (a .image .now))) (a .links) (a .start) (c .loop .k) (s .pre .2) (omega arith) (c .loop .inv .2)
+    nth-data (a .layout) (mapAt (bytes (a .image .now))) (a .links) (a .start) (c .loop .k) (s .pre .2) (omega arith) (c .loop .inv .1)
 
 -- a chain has no more blocks than the disk
 short : (c : tie.At-loop Inv-loop μ-loop) → c .before .before .args .links < 1600
@@ -45,7 +44,7 @@ short c =
 loop-holds : tie.Need-loop-holds Inv-loop μ-loop
 loop-holds c =
     let e : c .before .args .links - 0 ≡ c .before .args .links = omega arith in
-    (omega arith, refl, nth-first _ _ _, rw e)
+    (omega arith, nth-first _ _ _, collect-none _ _ (rw e))
 
 cast-list : tie.Need-cast-list Inv-loop μ-loop
 cast-list c = omega (arith, inside (c .before) .1, c .before .before .before .pre .1 .blocks-most)
@@ -66,9 +65,8 @@ loop-again c =
     let m = mapAt (bytes (a .image .now)) in
     let rest = chain-turn m (a .links) (l .k) (l .block) (c .map-at .result) (c .map-at .ensures) (omega arith) in (
       omega arith,
-      simp length-set (l .inv .1),
-      nth-next m (a .links) (a .start) (l .k) (l .inv .2) (c .map-at .ensures) (omega arith) refl,
-      collect-one (l .list) (l .k) (l .block) (omega (arith, short (c .before .before))) rest (l .inv .3),
+      nth-next m (a .links) (a .start) (l .k) (l .inv .1) (c .map-at .ensures) (omega arith) refl,
+      collect-one (l .list) (l .k) (l .block) rest (l .inv .2),
     )
 
 cast-list-2 : tie.Need-cast-list-2 Inv-loop μ-loop
@@ -88,7 +86,8 @@ returns c =
     let l = c .before .loop in
     let a = c .before .before .before .args in
     let rest = chain-last (mapAt (bytes (a .image .now))) (a .links - l .k) (l .block) (omega arith) in
-    collect-last (l .list) (a .links) (l .k) (l .block) (omega arith) (omega (arith, short (c .before))) rest (l .inv .3)
+    let z : l .k ≡ a .links = omega arith in
+    collect-end _ (omega (arith, short (c .before))) refl (rw z at (collect-one (l .list) (l .k) (l .block) rest (l .inv .2)))
 
 pub chain-blocks-spec : {M : Type 1} → statement M
 chain-blocks-spec =

@@ -1,23 +1,22 @@
 -- `map::free_blocks` meets its contract: the blocks collected and those still wanted of the rest are those wanted of the whole.
 -- Each block passed is free, and collected, or it isn't; the loop stops where none is left or none is wanted. Assumes nothing.
-use mathlib.Core.Path.{_≡_, refl, sym, ap, _∙_}
-use mathlib.Core.List.{_++_}
+use mathlib.Core.Path.{_≡_, sym, _∙_}
 use mathlib.Core.Logic.{⊎-elim}
 use Prim.Native.Nat.{_+_, _-_, _≤_, _<_}
 use native.Mathlib.Omega.{arith}
 use borrow.Author.Needs.{needs}
 use borrow.Author.Tests.{ltb-true, ltb-false}
-use lib.ListN.{length, take, length-set}
+use lib.ListN.{take}
 use Rattle.laws.specs.Reader.{bytes}
 use Rattle.map.specs.Map.{mapAt, freeFrom, freeBlocks}
-use Rattle.map.specs.Collect.{collect-one, collect-end, wanted-stop, wanted-on, wanted-end, wanted-full}
+use Rattle.map.specs.Collect.{Collecting, collect-none, collect-one, collect-end, wanted-stop, wanted-on, wanted-end, wanted-full}
 use Rattle.map.proofs.free_blocks.Statement.{statement}
 use Rattle.map.proofs.free_blocks.Tie as tie
 
 abbrev Inv-loop : tie.InvT-loop
 Inv-loop image wanted first end list₀ count₀ block₀ list count block =
-    (block ≤ end) × (count + first ≤ block) × (length list ≡ 1600)
-    × (take count list ++ take (wanted - count) (freeFrom (mapAt (bytes image)) block (end - block)) ≡ take wanted (freeFrom (mapAt (bytes image)) first (end - first)))
+    (block ≤ end) × (count + first ≤ block)
+    × Collecting list₀ (take wanted (freeFrom (mapAt (bytes image)) first (end - first))) list (take (wanted - count) (freeFrom (mapAt (bytes image)) block (end - block))) count
 
 abbrev μ-loop : tie.MeasureT-loop
 μ-loop image wanted first end list₀ count₀ block₀ list count block = end - block
@@ -37,7 +36,7 @@ loop-less c = search needs
 loop-holds : tie.Need-loop-holds Inv-loop μ-loop
 loop-holds c =
     let e : c .before .args .wanted - 0 ≡ c .before .args .wanted = omega arith in
-    (c .before .pre .1 .data-some, omega arith, refl, rw e)
+    (c .before .pre .1 .data-some, omega arith, collect-none _ _ (rw e))
 
 -- the blocks collected lie between the first data block and the block in hand, so the array holds one more
 few : (c : tie.At-loop Inv-loop μ-loop) → c .loop .count + c .before .before .args .layout .first ≤ 1600
@@ -60,22 +59,19 @@ loop-again c =
     let m = mapAt (bytes (a .image .now)) in
     let end = a .layout .blocks in
     let value = c .before .map-at .ensures in
-    let room : l .count < length (l .list) = omega (arith, p .before .before .pre .1 .data-first, few p) in
     let more : l .count < a .wanted = omega (arith, ltb-true) in
     ⊎-elim
     (λ w.
     let rest = wanted-stop m (l .block) end (l .count) (a .wanted) (omega arith) more (sym value ∙ w .0 .taken) in (
       omega arith,
       omega arith,
-      ap length (w .1) ∙ simp length-set (l .inv .2),
-      rw (w .1, w .2) (collect-one (l .list) (l .count) (l .block) room rest (l .inv .3)),
+      rw (w .1, w .2) (collect-one (l .list) (l .count) (l .block) rest (l .inv .2)),
     ))
     (λ w.
     let rest = wanted-on m (l .block) end (l .count) (a .wanted) (omega arith) (λ z. w .0 .left (value ∙ z)) in (
       omega arith,
       omega arith,
-      ap length (w .1) ∙ l .inv .2,
-      rw (w .1, w .2, ← rest) (l .inv .3),
+      rw (w .1, w .2, ← rest) (l .inv .2),
     )) (c .if2 .came)
 
 returns : tie.Need-returns Inv-loop μ-loop
@@ -85,7 +81,7 @@ returns c =
     let l = p .loop in
     let a = p .before .before .args in
     let none = wanted-full (mapAt (bytes (a .image .now))) (l .block) (a .layout .blocks) (l .count) (a .wanted) (omega (arith, ltb-false)) in
-    collect-end (record { list = l .list; count = l .count }) (omega (arith, few p)) none (l .inv .3)
+    collect-end (record { list = l .list; count = l .count }) (omega (arith, few p)) none (l .inv .2)
 
 returns-2 : tie.Need-returns-2 Inv-loop μ-loop
 unfolding freeBlocks
@@ -94,7 +90,7 @@ returns-2 c =
     let l = p .loop in
     let a = p .before .before .args in
     let none = wanted-end (mapAt (bytes (a .image .now))) (l .block) (a .layout .blocks) (l .count) (a .wanted) (omega arith) in
-    collect-end (record { list = l .list; count = l .count }) (omega (arith, few p)) none (l .inv .3)
+    collect-end (record { list = l .list; count = l .count }) (omega (arith, few p)) none (l .inv .2)
 
 pub free-blocks-spec : {M : Type 1} → statement M
 free-blocks-spec =
