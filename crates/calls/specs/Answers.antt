@@ -3,7 +3,7 @@
 use mathlib.Core.Path.{_≡_, refl, sym}
 use mathlib.Core.List.{List, []}
 use Prim.Native.Nat.{ℕ}
-use lib.ListN.{take, replicate}
+use lib.ListN.{length, take, replicate}
 use Rattle.laws.specs.Padded.{padded, padded-nil}
 use Rattle.layout.specs.declared.Kind.{Kind}
 use Rattle.layout.specs.declared.Density.{Density}
@@ -50,12 +50,18 @@ abbrev pub entryOf : Entry → List ℕ → Answer
 entryOf (entries.File letters letter length) name = entry (take letters name) letter length
 entryOf (entries.Refused r) name = refusedBy r
 
+-- How many letters that is.
+abbrev pub lettersOf : Entry → ℕ
+lettersOf (entries.File letters letter length) = letters
+lettersOf (entries.Refused r) = 0
+
 abbrev pub listedOf : Listed → Answer
 listedOf r = entryOf (r .entry) (r .name)
 
--- List's promise: its answer, and its 12 bytes, zeros but for the name.
+-- List's promise: its answer, how long the name is, and its 12 bytes, zeros but for the name.
 pub record Lists (img : List ℕ) (o : Outcome (List ℕ)) (r : Listed) : Type 0 where
   pub answer : came (listedOf r) [] img ≡ o
+  pub letters : lettersOf (r .entry) ≡ length (o .answer .name)
   pub name : r .name ≡ padded (o .answer .name) 12
 
 -- A listing without a file.
@@ -90,4 +96,4 @@ call-accepted img call e a = rw (← e, a) refl
 
 -- a listing of a refused image
 pub lists-refused : (img : List ℕ) (s : ℕ) {c : Checked} {r q : Refusal} {w : Listed} → c ≡ checkOf img → c ≡ Refused r → q ≡ refusalOf c → w ≡ unlistedBy q → Lists img (callOf img (list s)) w
-lists-refused img s e t u v = rw (v, ← call-refused img (list s) e t u) (record { answer = refl; name = sym (padded-nil 12) })
+lists-refused img s e t u v = rw (v, ← call-refused img (list s) e t u) (record { answer = refl; letters = refl; name = sym (padded-nil 12) })

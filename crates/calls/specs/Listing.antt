@@ -25,7 +25,7 @@ use Rattle.calls.specs.Answers.{Lists, unlistedBy}
 use Rattle.calls.specs.Slots.{file-used, file-length, slot-held}
 
 pub lists-none : (img : List ℕ) (w : Option File) {r : Listed} → w ≡ none → r ≡ unlistedBy (refusalAt 10 0) → Lists img (listing img w) r
-lists-none img w e q = rw (e, q) (record { answer = refl; name = sym (padded-nil 12) })
+lists-none img w e q = rw (e, q) (record { answer = refl; letters = refl; name = sym (padded-nil 12) })
 
 -- a part of 16 bytes that was lent by its end
 pub lent-area : (img : List ℕ) (at : ℕ) → at + 16 ≤ length img → take (at + 16 - at) (drop at img) ≡ tab (bytes img) at 16
@@ -47,6 +47,7 @@ module _ (l : Layout) (right : LayoutRight l) (img : List ℕ) (rules : DiskRule
       let front : take (l .letters) (padded given 12) ≡ given = ap (λ (k : ℕ). take k (padded given 12)) (sym long) ∙ take-padded given 12 in
       rw (file-used l img s inside here) (record {
         answer = rw (t, z, n, front, file-length l img s right rules inside here) refl;
+        letters = sym long;
         name = n;
       })
 
