@@ -6,24 +6,14 @@ use Prim.Native.Nat.{ℕ, zero, suc, _+_, _-_, _≤_, min}
 use native.Mathlib.Nat.{suc-min-suc, zero-min}
 use native.Mathlib.Omega.{arith}
 use lib.ListN.{length, take, drop, length-drop}
-use lib.Seq.{take-nil, drop-nil, drop-drop}
+use lib.Seq.{take-nil}
 
 pub take-clip : (n : ℕ) (l : List ℕ) → take (min n (length l)) l ≡ take n l
 take-clip n [] = take-nil (min n 0) ∙ sym (take-nil n)
 take-clip zero (x ∷ l) = rw zero-min
 take-clip (suc n) (x ∷ l) = rw suc-min-suc (ap (λ (r : List ℕ). x ∷ r) (take-clip n l))
 
-pub drop-clip : (n : ℕ) (l : List ℕ) → drop (min n (length l)) l ≡ drop n l
-drop-clip n [] = drop-nil (min n 0) ∙ sym (drop-nil n)
-drop-clip zero (x ∷ l) = rw zero-min
-drop-clip (suc n) (x ∷ l) = rw suc-min-suc (drop-clip n l)
-
 -- the part from `from` to an end e that is cut to the list's length
 pub part-clip : (l : List ℕ) (from n e : ℕ) → e ≡ min (length l) (from + n) → from ≤ length l → take (e - from) (drop from l) ≡ take n (drop from l)
 part-clip l from n e h k =
     let q : e - from ≡ min n (length (drop from l)) = omega (arith, length-drop from l) in rw q (take-clip n (drop from l))
-
--- what is left past it
-pub rest-clip : (l : List ℕ) (from n e : ℕ) → e ≡ min (length l) (from + n) → drop e l ≡ drop n (drop from l)
-rest-clip l from n e h =
-    let q : e ≡ min (from + n) (length l) = omega arith in rw q (drop-clip (from + n) l ∙ sym (drop-drop n from l))

@@ -94,13 +94,6 @@ unfolding splice
 set-splice l i v bt [] h = refl
 set-splice l i v bt (u ∷ us) h = rw (set-comm l i bt v u (λ e. omega arith)) (set-splice (set l bt u) i v (suc bt) us (omega arith))
 
--- two writes apart from each other commute
-pub splice-comm : (l : List ℕ) (at : ℕ) (vs : List ℕ) (bt : ℕ) (us : List ℕ) → at + length vs ≤ bt → splice (splice l at vs) bt us ≡ splice (splice l bt us) at vs
-unfolding splice
-splice-comm l at [] bt us h = refl
-splice-comm l at (v ∷ vs) bt us h =
-    splice-comm (set l at v) (suc at) vs bt us (omega arith) ∙ ap (λ (r : List ℕ). splice r (suc at) vs) (set-splice l at v bt us (omega arith))
-
 -- a write that goes on where another ends, whatever is written
 pub sets-append : {A : Type 0} (l : List A) (at : ℕ) (vs us : List A) → sets (sets l at vs) (at + length vs) us ≡ sets l at (vs ++ us)
 sets-append l at [] us = rw (add-zero at)
