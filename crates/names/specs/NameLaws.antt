@@ -4,21 +4,40 @@ use mathlib.Core.Path.{_≡_, refl, sym, ap, _∙_}
 use mathlib.Core.Bool.{Bool, true, false, true≢false}
 use mathlib.Core.List.{List, [], _∷_, map}
 use Prim.Native.Nat.{ℕ, zero, suc, _+_, _-_, _≤_, _<_}
+use native.Mathlib.Decide.{decLt}
 use native.Mathlib.Omega.{arith}
 use lib.ListN.{length, take, drop, getD, replicate, length-map, length-append, length-replicate, take-append-drop}
 use lib.Seq.{take-at, drop-at, length-take-le}
 use lib.Dec.{leb, eqb}
 use borrow.Author.Tests.{eqb-true, eq-eqb, leb-true, le-leb}
-use Rattle.laws.specs.Truth.{both-true, true-both}
+use Rattle.laws.specs.Truth.{both-true, true-both, within, within-in, within-above}
 use Rattle.laws.specs.Lists.{allOf, same, same-refl, same-true}
 use Rattle.layout.specs.declared.Layout.{Layout}
+use Rattle.layout.specs.Layouts.{s900, s1000}
 use Rattle.layout.specs.Right.{LayoutRight}
 use Rattle.names.specs.declared.Converted.{Converted}
 use Rattle.names.specs.declared.Converted.the-variants.{Byte, NoImage}
-use Rattle.names.specs.Akaii.{akaiiOf, asciiOf, hasImage, imageOf, akaii-back, ascii-back, ascii-some, code-most}
-use Rattle.names.specs.Names.{storedByte, givenByte, toDisk, toAscii, padding, legalName, areaOf, legalArea, nameOf}
+use Rattle.names.specs.Akaii.{akaiiOf, asciiOf, hasImage, imageOf, akaii-back, ascii-back, ascii-none, ascii-some, code-most}
+use Rattle.names.specs.Names.{storedByte, akaiiByte, asciiByte, givenByte, toDisk, toAscii, padding, legalName, areaOf, legalArea, nameOf}
 
 -- ---- one byte
+
+-- a byte of names is the same in a sampler's files and on its disks
+pub stored-s900 : (blocks first a : ℕ) → storedByte (s900 blocks first) a ≡ asciiByte a
+unfolding storedByte asciiByte
+stored-s900 blocks first a = refl
+
+pub akaii-within : (c : ℕ) → within 0 40 c ≡ akaiiByte c
+unfolding akaiiByte
+akaii-within c = go (decLt 40 c)
+  where
+    go : Dec (40 < c) → within 0 40 c ≡ hasImage (asciiOf c)
+    go (yes h) = within-above 0 40 c h ∙ sym (ap hasImage (ascii-none c h))
+    go (no h) = within-in 0 40 c (omega arith) (omega arith) ∙ sym (ascii-some c (omega arith))
+
+pub stored-s1000 : (blocks first c : ℕ) → storedByte (s1000 blocks first) c ≡ akaiiByte c
+unfolding storedByte
+stored-s1000 blocks first c = akaii-within c
 
 image-byte : (w : Converted) → hasImage w ≡ true → w ≡ Byte (imageOf w)
 image-byte (Byte b) e = refl

@@ -14,6 +14,15 @@ use Rattle.names.specs.Akaii.{akaiiOf, asciiOf, hasImage, imageOf}
 unfoldable pub storedByte : Layout → ℕ → Bool
 storedByte l c = within (l .low) (l .high) c
 
+-- A byte of names in files, which no layout tells: an AKAII code in S1000 files, ASCII in S900 ones (document 01, "The files"). It is what
+-- the disk of that sampler holds in names (`stored-s1000`, `stored-s900`).
+unfoldable pub akaiiByte : ℕ → Bool
+unfolding asciiOf
+akaiiByte c = hasImage (asciiOf c)
+
+unfoldable pub asciiByte : ℕ → Bool
+asciiByte a = within 32 126 a
+
 -- A legal byte of a name as it is given, in ASCII.
 unfoldable pub givenByte : Layout → ℕ → Bool
 unfolding storedByte akaiiOf

@@ -8,7 +8,7 @@ ghost use Rattle.laws.specs.Padded.{padded};
 ghost use Rattle.laws.specs.Truth.{within};
 ghost use Rattle.layout.specs.Right.{LayoutRight};
 ghost use Rattle.names.specs.Akaii.{akaiiOf, asciiOf, hasImage, imageOf};
-ghost use Rattle.names.specs.Names.{storedByte, givenByte, toDisk, toAscii, padding, legalName, legalType, areaOf, legalArea, nameOf};
+ghost use Rattle.names.specs.Names.{storedByte, akaiiByte, asciiByte, givenByte, toDisk, toAscii, padding, legalName, legalType, areaOf, legalArea, nameOf};
 
 // A byte's image in the other code, or that it has none.
 pub enum Converted {
@@ -68,22 +68,35 @@ fn image_of(image: Converted) -> u8
     }
 }
 
-// Whether a byte lies in a range, both ends included.
-fn is_within(low: usize, high: usize, byte: u8) -> bool
-    ensures { λ r. ⌜ r ≡ within low high byte ⌝ }
+// Whether a number lies in a range, both ends included.
+fn is_within(low: usize, high: usize, number: usize) -> bool
+    ensures { λ r. ⌜ r ≡ within low high number ⌝ }
 {
-    let value = byte as usize;
-    if value < low {
+    if number < low {
         return false;
     }
-    value <= high
+    number <= high
+}
+
+// Whether a number is an AKAII code, a byte of names in S1000 files.
+pub fn is_akaii(number: usize) -> bool
+    ensures { λ r. ⌜ r ≡ akaiiByte number ⌝ }
+{
+    is_within(0, 40, number)
+}
+
+// Whether a number is an ASCII byte of names in S900 files.
+pub fn is_ascii(number: usize) -> bool
+    ensures { λ r. ⌜ r ≡ asciiByte number ⌝ }
+{
+    is_within(32, 126, number)
 }
 
 // Whether a byte is legal in a name on the disk.
 pub fn is_stored(layout: layout::Layout, byte: u8) -> bool
     ensures { λ r. ⌜ r ≡ storedByte layout byte ⌝ }
 {
-    is_within(layout.low, layout.high, byte)
+    is_within(layout.low, layout.high, byte as usize)
 }
 
 // Whether a byte is legal in a name as callers give it, in ASCII.
@@ -100,7 +113,7 @@ pub fn is_given(layout: layout::Layout, byte: u8) -> bool
 pub fn is_type(layout: layout::Layout, letter: u8) -> bool
     ensures { λ r. ⌜ r ≡ legalType layout letter ⌝ }
 {
-    is_within(layout.least, layout.most, letter)
+    is_within(layout.least, layout.most, letter as usize)
 }
 
 // Whether callers may give a name: it has the layout's length, and each byte is legal.

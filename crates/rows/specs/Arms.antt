@@ -15,9 +15,10 @@ use Rattle.laws.specs.Reader.{bytes}
 use Rattle.laws.specs.declared.Lowest.{Lowest}
 use Rattle.laws.specs.declared.Lowest.the-variants.{At, Nowhere}
 use Rattle.blocks.specs.Numbers.{number, top, Number, number-next}
+use Rattle.names.specs.Names.{akaiiByte, asciiByte}
 use Rattle.rows.specs.declared.Width.{Width}
 use Rattle.rows.specs.declared.Rule.{Rule}
-use Rattle.rows.specs.declared.Rule.the-variants.{From, Within, OrOff, OneOf, AtMost, Past}
+use Rattle.rows.specs.declared.Rule.the-variants.{From, Within, OrOff, OneOf, AtMost, Past, Akaii, Ascii}
 use Rattle.rows.specs.declared.Row.{Row}
 use Rattle.rows.specs.declared.Row.the-variants.{Only}
 use Rattle.rows.specs.declared.Run.{Run}
@@ -78,6 +79,14 @@ module _ (header : List ℕ) (base size v : ℕ) {r : Rule} where
   pub past : {n x : ℕ} → r ≡ Past n → x ≡ n → eqb v (base + x) ≡ legal header base size r v
   unfolding legal
   past e p = rw (e, p)
+
+  pub akaii : {t : Bool} → r ≡ Akaii → t ≡ akaiiByte v → t ≡ legal header base size r v
+  unfolding legal
+  akaii e p = rw (e, p)
+
+  pub ascii : {t : Bool} → r ≡ Ascii → t ≡ asciiByte v → t ≡ legal header base size r v
+  unfolding legal
+  ascii e p = rw (e, p)
 
 -- ---- a run
 

@@ -11,6 +11,7 @@ use Rattle.laws.specs.Reader.{bytes}
 use Rattle.laws.specs.declared.Lowest.{Lowest}
 use Rattle.laws.specs.declared.Lowest.the-variants.{At, Nowhere}
 use Rattle.blocks.specs.Numbers.{number, top}
+use Rattle.names.specs.Names.{akaiiByte, asciiByte}
 use Rattle.rows.specs.declared.Width.{Width}
 use Rattle.rows.specs.declared.Width.the-variants.{One, Two, Four}
 use Rattle.rows.specs.declared.Rule.{Rule}
@@ -37,15 +38,15 @@ eachRun at count r = record { at = at; count = count; width = One; own = true; r
 abbrev pub groupRun : ℕ → ℕ → Width → Rule → Run
 groupRun at count width r = record { at = at; count = count; width = width; own = false; rule = r }
 
--- The numbers of a row and their rule. AKAII codes are 0 to 40, the ASCII of names is 32 to 126.
+-- The numbers of a row and their rule.
 abbrev pub runOf : Row → Run
 runOf (Only at v) = byteRun at (rule.From v v)
 runOf (From at low high) = byteRun at (rule.From low high)
 runOf (Within at n) = byteRun at (rule.Within n)
 runOf (OrOff at n) = byteRun at (rule.OrOff n)
 runOf (OneOf at a b d) = byteRun at (rule.OneOf a b d)
-runOf (Name at count) = eachRun at count (rule.From 0 40)
-runOf (Ascii at count) = eachRun at count (rule.From 32 126)
+runOf (Name at count) = eachRun at count rule.Akaii
+runOf (Ascii at count) = eachRun at count rule.Ascii
 runOf (Zeros at count) = eachRun at count (rule.From 0 0)
 runOf (AllFrom at count low high) = groupRun at count One (rule.From low high)
 runOf (AllWithin at count n) = groupRun at count One (rule.Within n)
@@ -59,13 +60,15 @@ runOf (AtMost at other) = groupRun at 1 Four (rule.AtMost other)
 -- Whether the number v of `size` bytes keeps a rule, in a header whose first byte is at offset `base` of its file. From -n to n in two's
 -- complement is up to n, or at most n below the first number that takes more bytes (`legal-signed`).
 unfoldable pub legal : List ℕ → ℕ → ℕ → Rule → ℕ → Bool
-unfolding number
+unfolding number akaiiByte asciiByte
 legal header base size (rule.From low high) v = within low high v
 legal header base size (rule.Within n) v = pick (leb v n) true (leb (top size) (v + n))
 legal header base size (rule.OrOff n) v = pick (leb v n) true (eqb v 255)
 legal header base size (rule.OneOf a b d) v = pick (eqb v a) true (pick (eqb v b) true (eqb v d))
 legal header base size (rule.AtMost other) v = leb v (number 4 (bytes header) other)
 legal header base size (rule.Past n) v = eqb v (base + n)
+legal header base size rule.Akaii v = akaiiByte v
+legal header base size rule.Ascii v = asciiByte v
 
 -- What a function that reads a number of a width answers.
 pub record Read (header : List ℕ) (at : ℕ) (width : Width) (r : ℕ) : Type 0 where

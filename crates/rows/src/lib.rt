@@ -27,6 +27,10 @@ pub enum Rule {
     AtMost(u16),
     // The file's offset so many bytes past the header's first.
     Past(u16),
+    // A byte of names in AKAII.
+    Akaii,
+    // A byte of names in ASCII.
+    Ascii,
 }
 
 // A row of a table: its offset, how many numbers where there are several, and what they must be.
@@ -158,6 +162,8 @@ fn is_legal(header: &[u8], base: usize, width: Width, rule: Rule, v: usize) -> b
         }
         Rule::AtMost(other) => v <= long(header, figure(other)),
         Rule::Past(n) => v == base + figure(n),
+        Rule::Akaii => names::is_akaii(v),
+        Rule::Ascii => names::is_ascii(v),
     }
 }
 
@@ -276,8 +282,8 @@ pub fn row_fault(header: &[u8], base: usize, row: Row) -> laws::Lowest
         Row::Within(at, n) => byte_fault(header, base, at, Rule::Within(n)),
         Row::OrOff(at, n) => byte_fault(header, base, at, Rule::OrOff(n)),
         Row::OneOf(at, a, b, d) => byte_fault(header, base, at, Rule::OneOf(a, b, d)),
-        Row::Name(at, count) => each_fault(header, base, at, count, Rule::From(0, 40)),
-        Row::Ascii(at, count) => each_fault(header, base, at, count, Rule::From(32, 126)),
+        Row::Name(at, count) => each_fault(header, base, at, count, Rule::Akaii),
+        Row::Ascii(at, count) => each_fault(header, base, at, count, Rule::Ascii),
         Row::Zeros(at, count) => each_fault(header, base, at, count, Rule::From(0, 0)),
         Row::AllFrom(at, count, low, high) => {
             group_fault(header, base, at, count, Width::One, Rule::From(low, high))

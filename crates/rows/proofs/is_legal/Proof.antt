@@ -1,7 +1,7 @@
 -- `rows::is_legal` meets its contract: each arm is its rule's test.
 -- By the rule's cases, and the tests on the way. Assumes nothing.
 use borrow.Author.Needs.{needs}
-use Rattle.rows.specs.Arms.{from-below, from-above, within-low, within-high, off-low, off-high, one-first, one-second, one-third, at-most, past}
+use Rattle.rows.specs.Arms.{from-below, from-above, within-low, within-high, off-low, off-high, one-first, one-second, one-third, at-most, past, akaii, ascii}
 use Rattle.rows.proofs.is_legal.Statement.{statement}
 use Rattle.rows.proofs.is_legal.Tie as tie
 
@@ -77,6 +77,18 @@ figure-requires-9 c κs = search needs
 add-result-2 : tie.Need-add-result-2
 add-result-2 c = search needs
 
+enum-told : tie.Need-enum-told
+enum-told c = search needs
+
+is-akaii-requires : tie.Need-is-akaii-requires
+is-akaii-requires c κs = search needs
+
+enum-told-2 : tie.Need-enum-told-2
+enum-told-2 c = search needs
+
+is-ascii-requires : tie.Need-is-ascii-requires
+is-ascii-requires c κs = search needs
+
 returns-6 : tie.Need-returns-6
 returns-6 c = from-above _ _ _ _ (c .before .before .before .before .rule .given .1) (c .before .before .figure .ensures .0) (c .before .if1 .left) (c .figure2 .ensures .0)
 
@@ -94,6 +106,12 @@ returns-10 c = at-most _ _ _ _ (c .before .before .before .rule5 .given .1) (c .
 
 returns-11 : tie.Need-returns-11
 returns-11 c = past _ _ _ _ (c .before .before .rule6 .given .1) (c .figure9 .ensures .0)
+
+returns-12 : tie.Need-returns-12
+returns-12 c = akaii _ _ _ _ (c .before .enum-told .given .1) (c .is-akaii .ensures)
+
+returns-13 : tie.Need-returns-13
+returns-13 c = ascii _ _ _ _ (c .before .enum-told2 .given .1) (c .is-ascii .ensures)
 
 pub is-legal-spec : {M : Type 1} → statement M
 is-legal-spec =
@@ -123,9 +141,15 @@ is-legal-spec =
     enum-known-rule-6
     figure-requires-9
     add-result-2
+    enum-told
+    is-akaii-requires
+    enum-told-2
+    is-ascii-requires
     returns-6
     returns-7
     returns-8
     returns-9
     returns-10
-    returns-11)
+    returns-11
+    returns-12
+    returns-13)

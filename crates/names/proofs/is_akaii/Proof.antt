@@ -1,0 +1,16 @@
+-- `names::is_akaii` meets its contract: the numbers that have an ASCII byte are 0 to 40.
+-- The callee tests that range. Assumes nothing.
+use mathlib.Core.Path.{_∙_}
+use borrow.Author.Needs.{needs}
+use Rattle.names.specs.NameLaws.{akaii-within}
+use Rattle.names.proofs.is_akaii.Statement.{statement}
+use Rattle.names.proofs.is_akaii.Tie as tie
+
+is-within-requires : tie.Need-is-within-requires
+is-within-requires c κs = search needs
+
+returns : tie.Need-returns
+returns c = c .is-within .ensures ∙ akaii-within _
+
+pub is-akaii-spec : {M : Type 1} → statement M
+is-akaii-spec = tie.close (tie.spec is-within-requires returns)
