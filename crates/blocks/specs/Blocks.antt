@@ -1,6 +1,6 @@
 -- Blocks of 1,024 bytes: how many a content needs, their bytes in order, and content written to them.
 -- By induction on the list of blocks; a block's bytes come from the splice laws. Assumes nothing.
-use mathlib.Core.Path.{_≡_, refl, sym, ap, _∙_}
+use mathlib.Core.Path.{_≡_, refl, sym, ap, ap₂, _∙_}
 use mathlib.Core.List.{List, [], _∷_, _++_}
 use mathlib.Core.Logic.{_⊎_, inl, inr}
 use Prim.Native.Nat.{ℕ, suc, _+_, _-_, _*_, _/_, _≤_, _<_}
@@ -70,7 +70,7 @@ pub write-off : (img ks content : List ℕ) (i : ℕ) → ((k : ℕ) → In k ks
 unfolding writeBlocks
 write-off img [] content i h = refl
 write-off img (k ∷ ks) content i h =
-    write-off (splice img (blockOffset k) (blockOf content)) ks (drop 1024 content) i (λ x j. h x (inr j)) ∙ block-off img k content i (h k (inl refl))
+    write-off (splice img (blockOffset k) (blockOf content)) ks _ i (λ x j. h x (inr j)) ∙ block-off img k content i (h k (inl refl))
 
 -- below the blocks nothing changes
 pub write-low : (img ks content : List ℕ) (first i : ℕ) → ((k : ℕ) → In k ks → first ≤ k) → i < blockOffset first → bytes (writeBlocks img ks content) i ≡ bytes img i
@@ -102,8 +102,8 @@ write-read img [] (x ∷ c) n d h s l = absurd (omega arith)
 write-read img (k ∷ ks) content n d h s l =
     let one : List ℕ = splice img (blockOffset k) (blockOf content) in
     let low : k < n = h k (inl refl) in
-    let e : 1024 * suc (length ks) ≡ 1024 + 1024 * length ks = omega arith in
-    let here : blockAt (bytes (writeBlocks one ks (drop 1024 content))) k ≡ blockOf content =
-    write-other one ks (drop 1024 content) k (d .0) ∙ block-same img k content (omega arith) in
-    rw (e, here, write-read one ks (drop 1024 content) n (d .1) (λ x i. h x (inr i)) (omega (arith, length-splice img (blockOffset k) (blockOf content))) (omega (arith, length-drop 1024 content)))
-    (padded-cut 1024 content (1024 * length ks))
+    let e : 1024 + 1024 * length ks ≡ 1024 * suc (length ks) = omega arith in
+    ap₂ (λ (xs ys : List ℕ). xs ++ ys) (write-other one ks (drop 1024 content) k (d .0) ∙ block-same img k content (omega arith))
+    (write-read one ks (drop 1024 content) n (d .1) (λ x i. h x (inr i)) (omega (arith, length-splice img (blockOffset k) (blockOf content))) (omega (arith, length-drop 1024 content)))
+    ∙ padded-cut 1024 content (1024 * length ks)
+    ∙ ap (padded content) e

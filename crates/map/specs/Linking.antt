@@ -56,12 +56,12 @@ off-outside bs n i h (inr p) b j = inr (omega (arith, h b j))
 pub length-link : (img bs : List ℕ) (mark : ℕ) → length (linkBlocks img bs mark) ≡ length img
 unfolding linkBlocks
 length-link img [] mark = refl
-length-link img (b ∷ bs) mark = length-link (setMap img b (firstOr bs mark)) bs mark ∙ length-set-map img _ _
+length-link img (b ∷ bs) mark = length-link _ bs mark ∙ length-set-map img _ _
 
 pub link-off : (img bs : List ℕ) (mark i : ℕ) → Off bs i → bytes (linkBlocks img bs mark) i ≡ bytes img i
 unfolding linkBlocks
 link-off img [] mark i o = refl
-link-off img (b ∷ bs) mark i o = link-off (setMap img b (firstOr bs mark)) bs mark i (λ x k. o x (inr k)) ∙ set-off img b (firstOr bs mark) i (o b (inl refl))
+link-off img (b ∷ bs) mark i o = link-off _ bs mark i (λ x k. o x (inr k)) ∙ set-off img b _ i (o b (inl refl))
 
 pub link-other : (img bs : List ℕ) (mark c : ℕ) → (In c bs → ⊥) → mapAt (bytes (linkBlocks img bs mark)) c ≡ mapAt (bytes img) c
 link-other img bs mark c n = number-cong 2 (bytes img) (bytes (linkBlocks img bs mark)) (mapOffset c) (λ i x y. link-off img bs mark i (off-other bs c i n x y))

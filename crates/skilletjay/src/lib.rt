@@ -205,9 +205,9 @@ fn counted_result(counted: laws::Counted) -> CCounted
             place: 0,
             count,
         },
-        laws::Counted::Refused(refusal) => CCounted {
-            refusal: refusal.number,
-            place: refusal.place,
+        laws::Counted::Refused(refused) => CCounted {
+            refusal: refused.number,
+            place: refused.place,
             count: 0,
         },
     }

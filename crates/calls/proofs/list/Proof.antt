@@ -1,8 +1,9 @@
 -- `calls::list` meets its contract: a refused image answers the check's refusal, an accepted one what the record says.
 -- The check's answer is taken apart, and the layout is that of its kind and density. Assumes nothing.
+use mathlib.Core.Path.{subst}
 use denote.Ref.{now}
 use borrow.Author.Needs.{needs}
-use Rattle.calls.specs.Answers.{lists-refused}
+use Rattle.calls.specs.Answers.{Lists, lists-refused}
 use Rattle.calls.specs.Done.{done-right, done-rules, list-done}
 use Rattle.calls.proofs.list.Statement.{statement}
 use Rattle.calls.proofs.list.Tie as tie
@@ -42,7 +43,7 @@ returns-2 c =
     let y = c .before in
     let k = y .before .before .before .before in
     let a = k .before .before .args in
-    rw (list-done (now (a .image)) (k .check .ensures) (y .before .before .checked .given .1) (y .layout-of .ensures) (a .slot)) at (c .list-slot .ensures)
+    subst (λ o. Lists (now (a .image)) o (c .list-slot .result)) (list-done (now (a .image)) (k .check .ensures) (y .before .before .checked .given .1) (y .layout-of .ensures) (a .slot)) (c .list-slot .ensures)
 
 pub list-spec : {M : Type 1} → statement M
 list-spec =
