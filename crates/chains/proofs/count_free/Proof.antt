@@ -10,7 +10,7 @@ use lib.Dec.{eqb}
 use borrow.Author.Needs.{needs}
 use borrow.Author.Tests.{eq-eqb, ne-eqb}
 use Rattle.laws.specs.Reader.{bytes}
-use Rattle.laws.specs.Scan.{count, count-end, count-stop, count-on, count-split}
+use Rattle.laws.specs.Scan.{count, count-end, count-stop, count-on}
 use Rattle.map.specs.Map.{mapAt, freeCount}
 use Rattle.chains.proofs.count_free.Statement.{statement}
 use Rattle.chains.proofs.count_free.Tie as tie
@@ -19,7 +19,7 @@ abbrev isFree : List ℕ → ℕ → Bool
 isFree head block = eqb (mapAt (bytes head) block) 0
 
 abbrev Inv-loop : tie.InvT-loop
-Inv-loop head end free₀ block₀ free block = (free ≤ block) × (free + count (isFree head) block (end - block) ≡ count (isFree head) block₀ (end - block₀))
+Inv-loop head end free₀ block₀ free block = (free ≤ block) × (block ≤ end) × (free + count (isFree head) block (end - block) ≡ count (isFree head) block₀ (end - block₀))
 
 abbrev μ-loop : tie.MeasureT-loop
 μ-loop head end free₀ block₀ free block = end - block
@@ -44,13 +44,11 @@ loop-again c =
     let d = c .before .before in
     let free = isFree (d .before .before .before .args .head .now) in
     let e = c .before .map-at .ensures in
-    ⊎-elim (λ w. (omega arith, omega (arith, count-stop free _ _ (d .loop-test .taken) (eq-eqb _ _ (sym e ∙ w .0 .taken)))))
-    (λ w. (omega arith, omega (arith, count-on free _ _ (d .loop-test .taken) (ne-eqb _ _ (λ z. w .0 .left (e ∙ z)))))) (c .if1 .came)
+    ⊎-elim (λ w. (omega arith, omega arith, omega (arith, count-stop free _ _ (d .loop-test .taken) (eq-eqb _ _ (sym e ∙ w .0 .taken)))))
+    (λ w. (omega arith, omega arith, omega (arith, count-on free _ _ (d .loop-test .taken) (ne-eqb _ _ (λ z. w .0 .left (e ∙ z)))))) (c .if1 .came)
 
 cast-result : tie.Need-cast-result Inv-loop μ-loop
-cast-result c =
-    let s = c .before .before .before in
-    omega (arith, s .pre .0 .blocks-most, count-split (isFree (s .args .head .now)) (s .args .layout .first) (s .args .layout .blocks - s .args .layout .first))
+cast-result c = omega (arith, c .before .before .before .pre .0 .blocks-most)
 
 returns : tie.Need-returns Inv-loop μ-loop
 unfolding freeCount

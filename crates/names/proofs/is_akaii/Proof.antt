@@ -10,7 +10,7 @@ is-within-requires : tie.Need-is-within-requires
 is-within-requires c κs = search needs
 
 returns : tie.Need-returns
-returns c = c .is-within .ensures ∙ akaii-within _
+returns c = c .is-within .ensures ∙ akaii-within (c .before .args .number)
 
 pub is-akaii-spec : {M : Type 1} → statement M
 is-akaii-spec = tie.close (tie.spec is-within-requires returns)
