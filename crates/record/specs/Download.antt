@@ -88,7 +88,7 @@ ends g (own ps) = inl tt
 ends g (other ps) = ends g ps
 
 module _ (shape : Shape) (slot : ℕ) (inside : slot < shape .layout .slots) (f : File) where
-  page-is : (files : Files) → files slot ≡ some f → (offset : ℕ) (out : List ℕ) → offset ≤ length (f .content)
+  pub page-is : (files : Files) → files slot ≡ some f → (offset : ℕ) (out : List ℕ) → offset ≤ length (f .content)
       → stepFiles shape files (page slot offset out) ≡ pageOf files (f .content) offset out
   unfolding stepFiles fileAt
   page-is files there offset out h = rw (lt-ltb slot (shape .layout .slots) inside, there, le-ltb (length (f .content)) offset h) refl

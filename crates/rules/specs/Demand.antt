@@ -2,20 +2,21 @@
 -- An accepted image meets the disk rules, a call keeps them and changes the files as the record does. Assumes nothing.
 use mathlib.Core.Path.{_≡_, refl, sym, ap, _∙_, fun-ext}
 use mathlib.Core.Bool.{Bool, true, false, true≢false}
-use mathlib.Core.List.{List, [], _∷_}
+use mathlib.Core.List.{List, [], _∷_, _++_}
 use mathlib.Core.Option.{Option, none, some}
 use mathlib.Core.Logic.{_↔_}
-use Prim.Native.Nat.{ℕ, _+_, _-_, _<_}
+use Prim.Native.Nat.{ℕ, _+_, _-_, _≤_, _<_, min}
 use native.Mathlib.Decide.{decLt}
 use native.Mathlib.Omega.{arith}
-use lib.Dec.{ltb}
-use lib.ListN.{length}
+use lib.Dec.{ltb, eqb}
+use lib.ListN.{length, drop}
 use borrow.Author.Tests.{lt-ltb, ltb-true}
 use Rattle.laws.specs.Truth.{clash, false-if}
 use Rattle.laws.specs.Scan.{lowest, nowhere→, →nowhere, total}
 use Rattle.laws.specs.declared.Lowest.{Lowest}
 use Rattle.laws.specs.declared.Lowest.the-variants.{At, Nowhere}
 use Rattle.laws.specs.Lists.{same, same-true}
+use Rattle.laws.specs.Splice.{part}
 use Rattle.laws.specs.Reader.{bytes}
 use Rattle.layout.specs.declared.Kind.{Kind}
 use Rattle.layout.specs.declared.Kind.the-variants.{S900, S1000}
@@ -30,7 +31,7 @@ use Rattle.view.specs.Disk.{File}
 use Rattle.view.specs.Counting.{takes}
 use Rattle.view.specs.Kept.{file-out}
 use Rattle.image.specs.Image.{viewOf, filesIn, DiskRules}
-use Rattle.record.specs.Record.{shapeOf, Files, Call, check, put, remove, Answer, Turn, numberIn, Outcome, refused, refuseIf, named, isEmpty, slotOf, emptySlot, judgePut, putting, stepFiles}
+use Rattle.record.specs.Record.{shapeOf, Files, Call, check, page, paged, put, remove, Answer, Turn, numberIn, Outcome, refused, refuseIf, named, isEmpty, slotOf, emptySlot, judgePut, putting, stepFiles}
 use Rattle.record.specs.declared.Judged.{Judged}
 use Rattle.record.specs.declared.Judged.the-variants.{Refuse, Grant}
 use Rattle.record.specs.Order.{roomFor, order-room}
@@ -41,7 +42,7 @@ use Rattle.record.specs.Download as record-download
 use Rattle.record.specs.Download.{Pages, own, nothing, got, Asked, Spared, Joins, Answered}
 use Rattle.rules.specs.declared.Checked.{Checked}
 use Rattle.rules.specs.declared.Checked.the-variants.{Accepted, Refused}
-use Rattle.rules.specs.Check.{checkOf, answerOf, callOf, Made}
+use Rattle.rules.specs.Check.{checkOf, answerOf, came, callOf, Made}
 use Rattle.rules.specs.Accepted.{acceptedAs, rules-accepted, accepted-rules, accepted-counts}
 
 -- ---- the claim
@@ -107,6 +108,25 @@ check-call img = go (checkOf img) refl
         let r = accepted-rules k d f n img e in
         let w = accepted-counts k d f n img e in
         rw (e, free-is (layoutOf k d) (layout-right k d) img r, w .0, w .1) refl
+
+-- a slot that holds a file is one of the disk's
+slot-inside : (l : Layout) (img : List ℕ) (s : ℕ) (file : File) → filesIn l img s ≡ some file → s < l .slots
+slot-inside l img s file e = go (decLt s (l .slots))
+  where
+    go : Dec (s < l .slots) → s < l .slots
+    go (yes h) = h
+    go (no h) = let z : none ≡ some file = sym (file-out l (viewOf l (bytes img)) s (omega arith)) ∙ e in absurd (let o : _≡_ {A = ℕ} 0 1 = cc in omega arith)
+
+-- Pages are the file's bytes (demand 2): as many as the output holds and the file has left, and the end is reached ↔ none is left after them.
+pub page-bytes : (k : Kind) (d : Density) (f n : ℕ) (img : List ℕ) → checkOf img ≡ Accepted k d f n → (slot : ℕ) (file : File) → filesIn (layoutOf k d) img slot ≡ some file
+    → (offset : ℕ) (out : List ℕ) → offset ≤ length (file .content)
+    → let count = min (length out) (length (file .content) - offset) in
+    callOf img (page slot offset out) ≡ came (paged count (eqb (offset + count) (length (file .content)))) (part (file .content) offset count ++ drop count out) img
+unfolding stepImage imageAfter
+page-bytes k d f n img e slot file there offset out h =
+    let l = layoutOf k d in
+    let p = record-download.page-is (shapeOf k d) slot (slot-inside l img slot file there) file (filesIn l img) there offset out h in
+    call-is k d img (page slot offset out) (accepted-rules k d f n img e) ∙ rw p refl
 
 -- ---- the free blocks
 
@@ -177,14 +197,6 @@ module _ (k : Kind) (d : Density) (f n : ℕ) (img : List ℕ) (yes : checkOf im
       (λ e. ltb-true n (blocksFor (length content)) (w .0 (sym a ∙ e)), λ h. a ∙ w .1 (lt-ltb n (blocksFor (length content)) h))
 
 -- ---- sequences
-
--- a slot that holds a file is one of the disk's
-slot-inside : (l : Layout) (img : List ℕ) (s : ℕ) (file : File) → filesIn l img s ≡ some file → s < l .slots
-slot-inside l img s file e = go (decLt s (l .slots))
-  where
-    go : Dec (s < l .slots) → s < l .slots
-    go (yes h) = h
-    go (no h) = let z : none ≡ some file = sym (file-out l (viewOf l (bytes img)) s (omega arith)) ∙ e in absurd (let o : _≡_ {A = ℕ} 0 1 = cc in omega arith)
 
 module _ (k : Kind) (d : Density) where
   -- the image that a call leaves, and the record's files

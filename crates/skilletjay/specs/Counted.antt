@@ -56,7 +56,7 @@ countingOf (blocks img slot out) = blocksOf img slot out
 
 -- ---- by the refusals
 
-program-kept : (n : ℕ) (short right : Bool) (w : Lowest) → Keeps [] (filled (pick short (refusedAt 0) (pick right (programAnswer n w) (refusedAt 42))) [])
+program-kept : (n : ℕ) (short right : Bool) (w : Lowest) → Keeps {A = ℕ} [] (filled (pick short (refusedAt 0) (pick right (programAnswer n w) (refusedAt 42))) [])
 program-kept n true right w = keeps-refused (refusalAt 20 0) [] (omega arith)
 program-kept n false true (At place) = keeps-refused (refusalAt 20 place) [] (omega arith)
 program-kept n false true Nowhere = keeps-done n [] []

@@ -1,0 +1,197 @@
+-- What the client is owed: each sentence of the mission, in its order, as a theorem that is stated in full and proved by a citation.
+-- To believe it, read these statements and the definitions they name:
+--   DiskRules (image/specs/Image), Valid (view/specs/Disk), Owed (rules/specs/Exactly), Breaks and Due (view/specs/Broken): when an image is accepted or refused;
+--   Call, Answer and stepFiles (record/specs/Record): the plain record, and a call on it; callOf and Made (rules/specs/Check): a call on any bytes;
+--   Kept (rules/specs/Demand), Pages to Joins (record/specs/Download): demand 3; TouchedBy (rules/specs/Outside): what a call may change;
+--   unpackOf and packOf (samples/specs/Samples), SampleRules (samples/specs/Rules), programOf and ProgramRules (program/specs/Program): the files;
+--   Told and turnIn (skilletjay/specs/Told): C's results. That the code does so is what each function's contract says. Assumes nothing.
+use mathlib.Core.Path.{_≡_}
+use mathlib.Core.Bool.{true, false}
+use mathlib.Core.List.{List, _++_}
+use mathlib.Core.Option.{none, some}
+use mathlib.Core.Logic.{_↔_}
+use Prim.Native.Nat.{ℕ, _+_, _-_, _≤_, _<_, min}
+use lib.Dec.{eqb}
+use lib.IntN.{ℤ}
+use lib.ListN.{length, take, drop}
+use lib.Seq.{sets}
+use Rattle.laws.specs.declared.Lowest.the-variants.{At, Nowhere}
+use Rattle.laws.specs.declared.Refusal.{Refusal}
+use Rattle.laws.specs.declared.Counted.the-variants.{Done}
+use Rattle.laws.specs.declared.Counted.the-variants as counted
+use Rattle.laws.specs.Refusals.{filled, unless}
+use Rattle.laws.specs.Scan.{total}
+use Rattle.laws.specs.Splice.{splice, part}
+use Rattle.laws.specs.Reader.{bytes}
+use Rattle.layout.specs.declared.Kind.{Kind}
+use Rattle.layout.specs.declared.Kind.the-variants.{S1000}
+use Rattle.layout.specs.declared.Density.{Density}
+use Rattle.layout.specs.Layouts.{layoutOf, lengthOf, blocksOf, firstOf, mapOffset, blockOffset}
+use Rattle.names.specs.Names.{legalName}
+use Rattle.map.specs.Map.{mapAt, freeCount}
+use Rattle.view.specs.Disk.{File}
+use Rattle.view.specs.Counting.{takes}
+use Rattle.image.specs.Image.{filesIn, DiskRules}
+use Rattle.record.specs.Record.{Shape, Files, Call, list, page, refused, paged, Turn, fileCount, slotOf, fileAt, refuse, judgeName, stepFiles}
+use Rattle.record.specs.declared.Judged.the-variants.{Grant}
+use Rattle.record.specs.Order as order
+use Rattle.rules.specs.declared.Checked.the-variants.{Accepted, Refused}
+use Rattle.rules.specs.Check.{checkOf, lent, came, callOf, Made}
+use Rattle.rules.specs.Accepted as accepted
+use Rattle.rules.specs.Accepted.{acceptedAs}
+use Rattle.rules.specs.Exactly as exactly
+use Rattle.rules.specs.Exactly.{Owed}
+use Rattle.rules.specs.Head as head
+use Rattle.rules.specs.Head.{Read}
+use Rattle.rules.specs.Refused as refusals
+use Rattle.rules.specs.Small as small
+use Rattle.rules.specs.Small.{Numbered}
+use Rattle.rules.specs.Demand as demand
+use Rattle.rules.specs.Demand.{Ran, Behaves}
+use Rattle.rules.specs.Outside as outside
+use Rattle.rules.specs.Outside.{TouchedBy}
+use Rattle.session.specs.Script.{runOf, entries}
+use Rattle.session.specs.Turns as scripts
+use Rattle.session.specs.Turns.{turns, leave}
+use Rattle.rows.specs.Failing.{Least}
+use Rattle.samples.specs.declared.Sampler.{Sampler}
+use Rattle.samples.specs.Samples.{countIn, headerOf, fileSize, roomFault, unpackOf, packOf}
+use Rattle.samples.specs.Rules.{SampleRules}
+use Rattle.samples.specs.Back.{Bytes}
+use Rattle.samples.specs.Calls as codecs
+use Rattle.samples.specs.Calls.{Words, PackRules}
+use Rattle.program.specs.Program.{programOf, Sized, ProgramRules, Fails}
+use Rattle.program.specs.Accepted as programs
+use Rattle.table.specs.Table.{rows, All}
+use Rattle.table.specs.Table as table
+use Rattle.skilletjay.specs.Told.{CTurn, Told, turnIn, CRan, turnsIn}
+use Rattle.skilletjay.specs.Sequence as sequence
+use Rattle.skilletjay.specs.Counted.{Counting, lentTo, countingOf}
+use Rattle.skilletjay.specs.Counted as counting
+
+-- ---- Demand 1: any bytes; a refusal has a number of the table, and changes nothing that was lent
+
+-- The calls on a disk: check, list, find, page, put, remove.
+pub refused-unchanged : (img : List ℕ) (c : Call) (r : Refusal) → callOf img c .answer .refusal ≡ some r → (callOf img c .output ≡ lent c) × (callOf img c .state ≡ img)
+refused-unchanged = refusals.unchanged
+
+pub refused-numbered : (img : List ℕ) (c : Call) (r : Refusal) → callOf img c .answer .refusal ≡ some r → Numbered r
+refused-numbered = small.refusal-numbered
+
+-- The calls that count: unpack, pack, the check of a program, the blocks of a file.
+pub counting-unchanged : (c : Counting) (r : Refusal) → countingOf c .answer ≡ counted.Refused r → (1 ≤ r .number) × (countingOf c .output ≡ lentTo c)
+counting-unchanged = counting.counting-kept
+
+-- The order in which a call's refusals are asked for; put's is `order-name` to `order-room` beside these.
+pub find-illegal : (k : Kind) (d : Density) (files : Files) (name : List ℕ) → legalName (layoutOf k d) name ≡ false → judgeName (layoutOf k d) files name ≡ refuse 11 0
+find-illegal k d = order.order-illegal (layoutOf k d)
+
+pub find-missing : (k : Kind) (d : Density) (files : Files) (name : List ℕ) → legalName (layoutOf k d) name ≡ true → slotOf (layoutOf k d) files name ≡ Nowhere → judgeName (layoutOf k d) files name ≡ refuse 10 0
+find-missing k d = order.order-missing (layoutOf k d)
+
+pub list-missing : (shape : Shape) (files : Files) (slot : ℕ) → fileAt (shape .layout) files slot ≡ none → stepFiles shape files (list slot) .answer ≡ refused 10 0
+list-missing = order.order-unlisted
+
+pub page-missing : (shape : Shape) (files : Files) (slot offset : ℕ) (out : List ℕ) → fileAt (shape .layout) files slot ≡ none → stepFiles shape files (page slot offset out) .answer ≡ refused 10 0
+page-missing = order.order-unpaged
+
+pub page-above : (shape : Shape) (files : Files) (slot offset : ℕ) (out : List ℕ) (f : File) → fileAt (shape .layout) files slot ≡ some f → length (f .content) < offset
+    → stepFiles shape files (page slot offset out) .answer ≡ refused 17 0
+page-above = order.order-above
+
+-- ---- Demand 2: accepted exactly when the disk rules hold
+
+pub accepted-exactly : (k : Kind) (d : Density) (img : List ℕ) → (checkOf img ≡ acceptedAs k d img) ↔ DiskRules (layoutOf k d) img
+accepted-exactly = accepted.accepted
+
+-- The number of files, and the free blocks counted in the map.
+pub accepted-counts : (k : Kind) (d : Density) (f n : ℕ) (img : List ℕ) → checkOf img ≡ Accepted k d f n
+    → (f ≡ fileCount (layoutOf k d) (filesIn (layoutOf k d) img)) × (n ≡ freeCount (layoutOf k d) (mapAt (bytes img)))
+accepted-counts = accepted.accepted-counts
+
+-- Otherwise refused: by each of 1 to 9 exactly when it is due, at its place.
+pub refused-exactly : (img : List ℕ) (r : Refusal) → (checkOf img ≡ Refused r) ↔ Owed img r
+refused-exactly = exactly.refused-exactly
+
+-- The check reads length, directory and map alone.
+pub check-reads : (x y : List ℕ) → length y ≡ length x
+    → ((k : Kind) (d : Density) (i : ℕ) → length x ≡ lengthOf d → Read (layoutOf k d) i → bytes y i ≡ bytes x i) → checkOf y ≡ checkOf x
+check-reads = head.check-reads
+
+-- Pages are the file's bytes: as many as the output holds and the file has left; the end is reached exactly if none is left after them.
+pub page-bytes : (k : Kind) (d : Density) (f n : ℕ) (img : List ℕ) → checkOf img ≡ Accepted k d f n → (slot : ℕ) (file : File) → filesIn (layoutOf k d) img slot ≡ some file
+    → (offset : ℕ) (out : List ℕ) → offset ≤ length (file .content)
+    → let count = min (length out) (length (file .content) - offset) in
+    callOf img (page slot offset out) ≡ came (paged count (eqb (offset + count) (length (file .content)))) (part (file .content) offset count ++ drop count out) img
+page-bytes = demand.page-bytes
+
+-- Unpacking and packing follow the published layouts: accepted exactly by their rules.
+pub unpack-exactly : (sampler : Sampler) (file : List ℕ) (words : List ℤ)
+    → (unpackOf sampler file words .answer ≡ Done (countIn sampler (headerOf sampler file))) ↔ (SampleRules sampler file × (countIn sampler (headerOf sampler file) ≤ length words))
+unpack-exactly = codecs.unpack-accepted
+
+pub pack-exactly : (sampler : Sampler) (header : List ℕ) (words : List ℤ) (out : List ℕ) → Words words
+    → (packOf sampler header words out .answer ≡ Done (fileSize sampler (length words))) ↔ PackRules sampler header words out
+pack-exactly = codecs.pack-accepted
+
+-- They undo each other: what was packed has its header, and unpacks to the words; what was unpacked packs to the file.
+pub packed-header : (sampler : Sampler) (header : List ℕ) (words : List ℤ) (out : List ℕ) (size : ℕ) → packOf sampler header words out .answer ≡ Done size
+    → headerOf sampler (take size (packOf sampler header words out .output)) ≡ header
+packed-header = codecs.header-packed
+
+pub packed-unpacks : (sampler : Sampler) (header : List ℕ) (words : List ℤ) (out : List ℕ) (size : ℕ) → packOf sampler header words out .answer ≡ Done size → Words words → (into : List ℤ)
+    → unpackOf sampler (take size (packOf sampler header words out .output)) into ≡ unless 21 (roomFault (length into) (length words)) into (filled (Done (length words)) (sets into 0 words))
+packed-unpacks = codecs.unpack-packed
+
+pub unpacked-packs : (sampler : Sampler) (file : List ℕ) (words : List ℤ) (count : ℕ) → Bytes file → unpackOf sampler file words .answer ≡ Done count → (out : List ℕ)
+    → packOf sampler (headerOf sampler file) (take count (unpackOf sampler file words .output)) out ≡ unless 21 (roomFault (length out) (length file)) out (filled (Done (length file)) (splice out 0 file))
+unpacked-packs = codecs.pack-unpacked
+
+-- Programs: accepted with n keygroups exactly by their rules, else refused at the lowest failing offset.
+pub program-exactly : (file : List ℕ) (n : ℕ) → (programOf file ≡ Done n) ↔ ProgramRules file n
+program-exactly = programs.program-accepted
+
+pub program-lowest : (file : List ℕ) (n : ℕ) (r : Refusal) → Sized file n → programOf file ≡ counted.Refused r → (r .number ≡ 20) × Least (Fails file n) (r .place)
+program-lowest = programs.program-lowest
+
+-- ---- Demand 3: any sequence of calls on an accepted image
+
+-- Before the first call and after each: free blocks and files make the data area.
+pub free-blocks : (k : Kind) (d : Density) (f n : ℕ) (img : List ℕ) → checkOf img ≡ Accepted k d f n
+    → (n ≡ freeCount (layoutOf k d) (mapAt (bytes img))) × (n + total (λ s. takes (filesIn (layoutOf k d) img s)) 0 (layoutOf k d .slots) ≡ blocksOf d - firstOf d)
+free-blocks = demand.free-blocks
+
+-- Whatever calls are made, each on the image that the last one left: after each of them answer, output, image and files are the record's, files that
+-- it doesn't name stay, the free blocks are right, a put has room or not, and downloads join (`Kept`, one field each).
+pub record-kept : (k : Kind) (d : Density) (f n : ℕ) (img : List ℕ) → checkOf img ≡ Accepted k d f n → (ts : List Turn) → Ran img ts → Behaves k d img (filesIn (layoutOf k d) img) ts
+record-kept = demand.demand-3
+
+-- The same of C's functions, from their results alone.
+pub record-kept-c : (k : Kind) (d : Density) (f n : ℕ) (img : List ℕ) → checkOf img ≡ Accepted k d f n → (ts : List CTurn) → CRan (layoutOf k d) img ts
+    → Behaves k d img (filesIn (layoutOf k d) img) (turnsIn (layoutOf k d) img ts)
+record-kept-c = sequence.demand-3-c
+
+-- The same of a script of calls that C lends whole.
+pub record-kept-script : (k : Kind) (d : Density) (f n : ℕ) (img script pool out : List ℕ) → checkOf img ≡ Accepted k d f n
+    → let ts = turns script pool (entries script out) 0 img out in
+    (runOf img script pool out ≡ leave out 0 img ts) × Behaves k d img (filesIn (layoutOf k d) img) ts
+record-kept-script = scripts.script-serves
+
+-- Nothing else in the image changes, on any bytes; the volume label is kept.
+pub nothing-else : (img : List ℕ) (c : Call) (i : ℕ) → (TouchedBy (checkOf img) img c i → ⊥) → bytes (callOf img c .state) i ≡ bytes img i
+nothing-else = outside.nothing-else
+
+pub label-kept : (d : Density) (f n : ℕ) (img : List ℕ) → checkOf img ≡ Accepted S1000 d f n → (c : Call) (i : ℕ)
+    → mapOffset (layoutOf S1000 d .blocks) ≤ i → i < blockOffset (layoutOf S1000 d .first) → bytes (callOf img c .state) i ≡ bytes img i
+label-kept = outside.label-kept
+
+-- ---- What C gets: each result tells the record's answer whole
+
+pub result-tells : (k : Kind) (d : Density) (f n : ℕ) (img : List ℕ) → checkOf img ≡ Accepted k d f n → (t : CTurn) → Told img t
+    → let u = turnIn (layoutOf k d) img t in Made img (u .call) (u .answer) (u .output) (u .after)
+result-tells = sequence.told-made
+
+-- ---- The worked disks and words P1 to P13
+
+pub worked : All rows
+worked = table.table

@@ -1,0 +1,1 @@
+// What the client is owed, theorem by theorem: specs/Demands.antt.
