@@ -181,6 +181,9 @@ record-kept-script = scripts.script-serves
 pub nothing-else : (img : List ℕ) (c : Call) (i : ℕ) → (TouchedBy (checkOf img) img c i → ⊥) → bytes (callOf img c .state) i ≡ bytes img i
 nothing-else = outside.nothing-else
 
+pub length-kept : (img : List ℕ) (c : Call) → length (callOf img c .state) ≡ length img
+length-kept = outside.length-kept
+
 pub label-kept : (d : Density) (f n : ℕ) (img : List ℕ) → checkOf img ≡ Accepted S1000 d f n → (c : Call) (i : ℕ)
     → mapOffset (layoutOf S1000 d .blocks) ≤ i → i < blockOffset (layoutOf S1000 d .first) → bytes (callOf img c .state) i ≡ bytes img i
 label-kept = outside.label-kept

@@ -1,10 +1,11 @@
 -- Nothing else in the image changes (document 01, "Calls on an accepted disk"), call by call and on any bytes; so the volume label is kept.
 -- A refused image is kept whole, and on an accepted one it is the record's claim. Assumes nothing.
-use mathlib.Core.Path.{_≡_, refl}
+use mathlib.Core.Path.{_≡_, refl, sym, _∙_}
 use mathlib.Core.List.{List}
 use mathlib.Core.Logic.{_⊎_, inr}
 use Prim.Native.Nat.{ℕ, _+_, _≤_, _<_}
 use native.Mathlib.Omega.{arith}
+use lib.ListN.{length}
 use Rattle.laws.specs.Reader.{bytes}
 use Rattle.layout.specs.declared.Kind.{Kind}
 use Rattle.layout.specs.declared.Kind.the-variants.{S1000}
@@ -14,8 +15,8 @@ use Rattle.layout.specs.Layouts.{layoutOf, slotOffset, blockOffset, mapOffset}
 use Rattle.layout.specs.Right.{layout-right}
 use Rattle.map.specs.Linking.{Outside}
 use Rattle.image.specs.Outside.{Within, InMap}
-use Rattle.record.specs.Record.{Call}
-use Rattle.record.specs.Step.{stepImage}
+use Rattle.record.specs.Record.{shapeOf, Call}
+use Rattle.record.specs.Step.{stepImage, step}
 use Rattle.record.specs.Outside.{Touches, Changeable, step-outside, touches-where, system-fixed, identity-fixed, reserved-fixed}
 use Rattle.rules.specs.declared.Checked.{Checked}
 use Rattle.rules.specs.declared.Checked.the-variants.{Accepted, Refused}
@@ -35,6 +36,16 @@ nothing-else img c i out = go (checkOf img) out
     go : (w : Checked) → (TouchedBy w img c i → ⊥) → bytes (callBy w img c .state) i ≡ bytes img i
     go (Refused r) out = refl
     go (Accepted k d files free) out = step-outside (layoutOf k d) (layout-right k d) img i c out
+
+-- Nor does the image grow or shrink.
+pub length-kept : (img : List ℕ) (c : Call) → length (callOf img c .state) ≡ length img
+unfolding callOf stepImage
+length-kept img c = go (checkOf img) refl
+  where
+    go : (w : Checked) → checkOf img ≡ w → length (callBy w img c .state) ≡ length img
+    go (Refused r) e = refl
+    go (Accepted k d f n) e =
+        let r = accepted-rules k d f n img e in step (shapeOf k d) (layout-right k d) img r c .rules .size ∙ sym (r .size)
 
 -- ---- what every call keeps of an accepted image
 
