@@ -1,13 +1,7 @@
 // The calls' answers as lines.
 ghost use Prim.Native.Nat.{_<_};
+use crate::print;
 use libc::STDOUT_FILENO;
-
-// A file's line; a name has at most twelve letters.
-fn print_file(letters: usize, letter: u8, size: usize, name: &[u8]) {
-    if letters <= name.len() {
-        listing::print_entry(letter, size, &name[0..letters]);
-    }
-}
 
 // The line of a slot's listing.
 pub(crate) fn print_listed(listed: calls::Listed) {
@@ -18,18 +12,18 @@ pub(crate) fn print_listed(listed: calls::Listed) {
             letters,
             letter,
             length,
-        } => print_file(letters, letter, length, &name),
-        calls::Entry::Refused(refusal) => listing::print_refused(refusal),
+        } => print::file(letters, letter, length, name),
+        calls::Entry::Refused(refusal) => print::refused(refusal),
     }
 }
 
 fn print_found(found: calls::Found) {
     match found {
         calls::Found::At(slot) => {
-            listing::print_number(b"slot ", slot);
-            listing::print_line_end();
+            print::number(b"slot ", slot);
+            print::line_end();
         }
-        calls::Found::Refused(refusal) => listing::print_refused(refusal),
+        calls::Found::Refused(refusal) => print::refused(refusal),
     }
 }
 
@@ -67,13 +61,13 @@ fn print_front(out: &[u8]) {
         if i == 4 {
             break;
         }
-        listing::print_number(b" ", wide(out[i]));
+        print::number(b" ", wide(out[i]));
         i += 1;
     }
 }
 
 fn print_count(count: usize, end: bool) {
-    listing::print_number(b"count ", count);
+    print::number(b"count ", count);
     if end {
         io::write_all(STDOUT_FILENO, b" end");
     } else {
@@ -81,20 +75,15 @@ fn print_count(count: usize, end: bool) {
     }
 }
 
-fn print_refusal(refusal: laws::Refusal) {
-    listing::print_number(b"refused ", refusal.number as usize);
-    listing::print_number(b" at ", refusal.place);
-}
-
 // The line of a page: the answer, then the output, which a refusal must have kept.
 fn print_paged(paged: calls::Paged, out: &[u8]) {
     match paged {
         calls::Paged::Page { count, end } => print_count(count, end),
-        calls::Paged::Refused(refusal) => print_refusal(refusal),
+        calls::Paged::Refused(refusal) => print::refusal(refusal),
     }
     print_front(out);
-    listing::print_number(b" sum ", sum_of(out));
-    listing::print_line_end();
+    print::number(b" sum ", sum_of(out));
+    print::line_end();
 }
 
 // Pages into all of the output, and prints the answer.

@@ -17,6 +17,7 @@
 mod answers;
 mod build;
 mod line;
+mod print;
 
 use libc::STDIN_FILENO;
 use libc::STDOUT_FILENO;
@@ -27,7 +28,7 @@ pub(crate) type Image = [u8; 1638401];
 // Prints the line, with its end.
 fn print_text(text: &[u8]) {
     io::write_all(STDOUT_FILENO, text);
-    listing::print_line_end();
+    print::line_end();
 }
 
 // Runs a command that changes the image, and gives the image's length after it.
@@ -60,7 +61,7 @@ fn ask(image: &[u8], text: &[u8]) {
     let c = line::number(text, b.next);
     match line::byte_at(text, 0) {
         b'#' => print_text(text),
-        b'c' => listing::print_checked(disk::check(image)),
+        b'c' => print::checked(disk::check(image)),
         b'l' => answers::print_listed(calls::list(image, a.value)),
         b'f' => answers::find(image, text, 5),
         b'p' => answers::page(image, a.value, b.value, c.value),

@@ -1,1 +1,3 @@
-pub mod Accepted
+pub mod Listing
+pub mod Lines
+pub mod Puts

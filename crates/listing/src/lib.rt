@@ -1,10 +1,18 @@
 // The listing program (document 01): reads an image on standard input, and writes what it holds or why it is refused.
-// No contract can say what is read and written: these say only what reads of the head and sums ask. What is printed
-// are the answers of the check and of the slots' readers.
-ghost use Prim.Native.Nat.{_+_, _≤_};
+// `lines` makes all of the text in a lent output, where a promise says what it is; `run` alone reads and writes.
+// The functions that put a part of it say which text they put, and where the next one goes; outside, only `cases` calls them.
+ghost use mathlib.Core.Path.{_≡_};
+ghost use mathlib.Core.List.{_++_};
+ghost use Prim.Native.Nat.{_+_, _≤_, _<_};
 ghost use lib.ListN.{length};
+ghost use Rattle.laws.specs.Reader.{bytes};
 ghost use Rattle.layout.specs.Layouts.{slotOffset};
 ghost use Rattle.layout.specs.Right.{LayoutRight};
+ghost use Rattle.record.specs.Record.{kindNumber, densityNumber, entry};
+ghost use Rattle.rules.specs.Check.{answerOf};
+ghost use Rattle.listing.specs.Listing.{decimal, densityWord, refusedText, checkText, fileLine, slotLine, slotLines};
+ghost use Rattle.listing.specs.Lines.{slotAnswer, linesOf};
+ghost use Rattle.listing.specs.Puts.{Puts, Fills};
 use libc::STDIN_FILENO;
 use libc::STDOUT_FILENO;
 
@@ -33,48 +41,65 @@ fn count_rest() -> usize
     total
 }
 
+// Puts a word into the output from an index on, as far as there is room, and gives the index past it.
+fn put(word: &[u8], out: &mut [u8], at: usize) -> usize
+    requires { ⌜ (length (now word) ≤ 65536) × (at ≤ 65536) ⌝ }
+    ensures { λ r. ⌜ Puts (length (now (word .entry))) (now (word .entry)) at (now (out .entry)) (now (out .exit)) r ⌝ }
+{
+    let mut i = 0;
+    while i < word.len() {
+        if at + i < out.len() {
+            out[at + i] = word[i];
+        }
+        i += 1;
+    }
+    at + word.len()
+}
+
 // A word, and the number after it.
-pub fn print_number(word: &[u8], number: usize) {
-    io::write_all(STDOUT_FILENO, word);
-    io::print_decimal(STDOUT_FILENO, number as u64);
+fn put_number(word: &[u8], number: usize, out: &mut [u8; 4096], at: usize) -> usize
+    requires { ⌜ (length (now word) ≤ 32768) × (at ≤ 32768) ⌝ }
+    ensures { λ r. ⌜ Puts (length (now (word .entry)) + 20) (now (word .entry) ++ decimal number) at (now (out .entry)) (now (out .exit)) r ⌝ }
+{
+    let next = put(word, out, at);
+    let mut digits = [0u8; 20];
+    let count = io::decimal(number as u64, &mut digits);
+    put(&digits[0..count], out, next)
 }
 
-// Every line ends with one line feed.
-pub fn print_line_end() {
-    io::write_all(STDOUT_FILENO, b"\n");
+// A refusal, without its line's end.
+pub fn put_refused(refusal: laws::Refusal, out: &mut [u8; 4096], at: usize) -> usize
+    requires { ⌜ at ≤ 4096 ⌝ }
+    ensures { λ r. ⌜ Puts 52 (refusedText refusal) at (now (out .entry)) (now (out .exit)) r ⌝ }
+{
+    let next = put_number(b"refused ", refusal.number as usize, out, at);
+    put_number(b" at ", refusal.place, out, next)
 }
 
-fn print_kind(kind: layout::Kind) {
+fn kind_number(kind: layout::Kind) -> usize
+    ensures { λ r. ⌜ r ≡ kindNumber kind ⌝ }
+{
     match kind {
-        layout::Kind::S900 => {
-            io::write_all(STDOUT_FILENO, b"S900");
-        }
-        layout::Kind::S1000 => {
-            io::write_all(STDOUT_FILENO, b"S1000");
-        }
+        layout::Kind::S900 => 900,
+        layout::Kind::S1000 => 1000,
     }
 }
 
-fn print_density(density: layout::Density) {
+fn put_density(density: layout::Density, out: &mut [u8; 4096], at: usize) -> usize
+    requires { ⌜ at ≤ 8192 ⌝ }
+    ensures { λ r. ⌜ Puts 5 (densityWord (densityNumber density)) at (now (out .entry)) (now (out .exit)) r ⌝ }
+{
     match density {
-        layout::Density::Low => {
-            io::write_all(STDOUT_FILENO, b" low");
-        }
-        layout::Density::High => {
-            io::write_all(STDOUT_FILENO, b" high");
-        }
+        layout::Density::Low => put(b" low", out, at),
+        layout::Density::High => put(b" high", out, at),
     }
 }
 
-// The line of a refusal.
-pub fn print_refused(refusal: laws::Refusal) {
-    print_number(b"refused ", refusal.number as usize);
-    print_number(b" at ", refusal.place);
-    print_line_end();
-}
-
-// The line of the check's answer.
-pub fn print_checked(checked: rules::Checked) {
+// The check's answer, without its line's end.
+pub fn put_checked(checked: rules::Checked, out: &mut [u8; 4096], at: usize) -> usize
+    requires { ⌜ at ≤ 4096 ⌝ }
+    ensures { λ r. ⌜ Puts 79 (checkText (answerOf checked)) at (now (out .entry)) (now (out .exit)) r ⌝ }
+{
     match checked {
         rules::Checked::Accepted {
             kind,
@@ -82,64 +107,76 @@ pub fn print_checked(checked: rules::Checked) {
             files,
             free,
         } => {
-            print_kind(kind);
-            print_density(density);
-            print_number(b" files ", files);
-            print_number(b" free ", free);
-            print_line_end();
+            let next = put_number(b"S", kind_number(kind), out, at);
+            let next = put_density(density, out, next);
+            let next = put_number(b" files ", files, out, next);
+            put_number(b" free ", free, out, next)
         }
-        rules::Checked::Refused(refusal) => print_refused(refusal),
+        rules::Checked::Refused(refusal) => put_refused(refusal, out, at),
     }
 }
 
 // A file's type, length and name, and the line's end.
-pub fn print_entry(letter: u8, size: usize, name: &[u8]) {
+pub fn put_file(letter: u8, size: usize, name: &[u8], out: &mut [u8; 4096], at: usize) -> usize
+    requires { ⌜ (length (now name) ≤ 12) × (at ≤ 8192) ⌝ }
+    ensures { λ r. ⌜ Puts 38 (fileLine (entry (now (name .entry)) letter size)) at (now (out .entry)) (now (out .exit)) r ⌝ }
+{
     let letters = [letter];
-    io::write_all(STDOUT_FILENO, &letters);
-    print_number(b" ", size);
-    io::write_all(STDOUT_FILENO, b" [");
-    io::write_all(STDOUT_FILENO, name);
-    io::write_all(STDOUT_FILENO, b"]");
-    print_line_end();
+    let next = put(&letters, out, at);
+    let next = put_number(b" ", size, out, next);
+    let next = put(b" [", out, next);
+    let next = put(name, out, next);
+    put(b"]\n", out, next)
 }
 
 // The line of a slot, if it is used.
-fn print_slot(head: &[u8], layout: layout::Layout, slot: usize)
-    requires { ⌜ LayoutRight layout × (slotOffset layout slot + 24 ≤ length (now head)) ⌝ }
+fn put_slot(
+    head: &[u8],
+    layout: layout::Layout,
+    slot: usize,
+    out: &mut [u8; 4096],
+    at: usize,
+) -> usize
+    requires { ⌜ LayoutRight layout × (slotOffset layout slot + 24 ≤ length (now head)) × (slot < 64) × (at ≤ 4096) ⌝ }
+    ensures { λ r. ⌜ Puts 46 (slotLine slot (slotAnswer layout (bytes (now (head .entry))) slot)) at (now (out .entry)) (now (out .exit)) r ⌝ }
 {
     if !slots::is_used(head, layout, slot) {
-        return;
+        return at;
     }
     let letters = layout.letters;
-    let at = layout.directory + 24 * slot;
-    let end = at + 16;
-    let name = names::name_of(layout, &head[at..end]);
-    print_number(b"slot ", slot);
-    io::write_all(STDOUT_FILENO, b" ");
+    let from = layout.directory + 24 * slot;
+    let to = from + 16;
+    let name = names::name_of(layout, &head[from..to]);
     let letter = slots::type_of(head, layout, slot);
-    print_entry(
-        letter,
-        slots::size_of(head, layout, slot),
-        &name[0..letters],
-    );
+    let size = slots::size_of(head, layout, slot);
+    let next = put_number(b"slot ", slot, out, at);
+    let next = put(b" ", out, next);
+    put_file(letter, size, &name[0..letters], out, next)
 }
 
 // The lines of the used slots, in order.
-fn print_slots(head: &[u8], layout: layout::Layout)
-    requires { ⌜ LayoutRight layout × (slotOffset layout (layout .slots) ≤ length (now head)) ⌝ }
+fn put_slots(head: &[u8], layout: layout::Layout, out: &mut [u8; 4096], at: usize) -> usize
+    requires { ⌜ LayoutRight layout × (slotOffset layout (layout .slots) ≤ length (now head)) × (layout .slots ≡ 64) × (at ≤ 80) ⌝ }
+    ensures { λ r. ⌜ Puts 2944 (slotLines (slotAnswer layout (bytes (now (head .entry)))) 64) at (now (out .entry)) (now (out .exit)) r ⌝ }
 {
     let slots = layout.slots;
+    let mut next = at;
     let mut slot = 0;
     while slot < slots {
-        print_slot(head, layout, slot);
+        next = put_slot(head, layout, slot, out, next);
         slot += 1;
     }
+    next
 }
 
-// The listing of an image of which the head, and its length, are at hand.
-fn print_image(head: &[u8], length: usize) {
+// Puts the listing of an image, of which the head and the length are at hand, at the front of the output, and gives how
+// long it is. 4,096 bytes are enough for every image.
+pub fn lines(head: &[u8], length: usize, out: &mut [u8; 4096]) -> usize
+    ensures { λ r. ⌜ Fills (linesOf (now (head .entry)) length) (now (out .entry)) (now (out .exit)) r ⌝ }
+{
     let checked = disk::check_head(head, length);
-    print_checked(checked);
+    let next = put_checked(checked, out, 0);
+    let next = put(b"\n", out, next);
     let rules::Checked::Accepted {
         kind,
         density,
@@ -147,11 +184,11 @@ fn print_image(head: &[u8], length: usize) {
         free: _,
     } = checked
     else {
-        return;
+        return next;
     };
-    print_slots(head, layout::layout_of(kind, density));
-    print_number(b"end ", files);
-    print_line_end();
+    let next = put_slots(head, layout::layout_of(kind, density), out, next);
+    let next = put_number(b"end ", files, out, next);
+    put(b"\n", out, next)
 }
 
 // Lists the image on standard input: of its bytes the first 5,120 are kept, the rest is counted.
@@ -159,5 +196,7 @@ pub fn run() {
     let mut head = [0u8; 5120];
     let kept = io::read_full(STDIN_FILENO, &mut head);
     let rest = count_rest();
-    print_image(&head[0..kept], kept + rest);
+    let mut out = io::buffer();
+    let count = lines(&head[0..kept], kept + rest, &mut out);
+    io::write_all(STDOUT_FILENO, &out[0..count]);
 }
