@@ -31,7 +31,7 @@ use Rattle.rules.specs.declared.Checked.the-variants.{Accepted, Refused}
 use Rattle.rules.specs.Accepted.{accepted-rules}
 use Rattle.rules.specs.Check.{checkOf, checkStart, answerOf, callOf}
 use Rattle.rules.specs.Demand.{check-call}
-use Rattle.rules.specs.Head.{head-agree, head-holds, same-entry, start-check}
+use Rattle.rules.specs.Head.{read-head, head-agree, same-entry, start-check}
 use Rattle.disk.specs.Steps.{start-short, made-right, directory-held}
 use Rattle.calls.specs.Done.{list-done}
 use Rattle.calls.specs.Listing.{lent-area}
@@ -126,7 +126,7 @@ module _ (head img : List ℕ) (enough : min (length img) 5120 ≤ length head) 
     slot-same : slotAnswer l (bytes head) s ≡ callOf img (list s) .answer
     unfolding slotAnswer
     slot-same =
-        rw (same-entry (bytes img) (bytes head) (head-agree img head same) l (layout-right k d) (head-holds k d) s h)
+        rw (same-entry (bytes img) (bytes head) l (layout-right k d) (λ i r. head-agree img head same i (read-head k d i r)) s h)
         (slot-by (used (viewOf l (bytes img) .entry s)) refl ∙ ap (λ (o : Outcome (List ℕ)). o .answer) (list-done img refl yes refl s))
 
   -- A head that has the image's first 5,120 bytes, or all of them, gives the lines of the check's and list's answers.
