@@ -4,7 +4,8 @@ use mathlib.Core.Path.{_≡_, refl, sym}
 use mathlib.Core.List.{List, []}
 use Prim.Native.Nat.{ℕ}
 use lib.ListN.{length, take, replicate}
-use Rattle.laws.specs.Padded.{padded, padded-nil}
+use Rattle.laws.specs.Padded.{padded}
+use Rattle.laws.specs.Lemmas.Padded.{padded-nil}
 use Rattle.layout.specs.declared.Kind.{Kind}
 use Rattle.layout.specs.declared.Density.{Density}
 use Rattle.record.specs.Record.{shapeOf, Call, list, find, page, put, remove, Answer, entry, valued, paged, done, refusedBy, Outcome}

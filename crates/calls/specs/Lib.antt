@@ -1,8 +1,3 @@
 pub mod Answers
-pub mod Done
-pub mod Slots
-pub mod Listing
-pub mod Finding
-pub mod Paging
-pub mod Putting
 pub mod Made
+pub mod Lemmas

@@ -5,18 +5,18 @@ use mathlib.Core.Bool.{Bool}
 use mathlib.Core.List.{List}
 use Prim.Native.Nat.{ℕ, _-_}
 use native.Mathlib.Omega.{arith}
-use Rattle.laws.specs.Scan.{lowest}
+use Rattle.laws.specs.Scan.{lowest, count}
 use Rattle.laws.specs.declared.Lowest.{Lowest}
 use Rattle.laws.specs.declared.Lowest.the-variants.{At, Nowhere}
 use Rattle.laws.specs.declared.Refusal.{Refusal}
 use Rattle.laws.specs.Refusals.{refusalAt}
 use Rattle.layout.specs.declared.Layout.{Layout}
-use Rattle.map.specs.Map.{faultOf}
-use Rattle.map.specs.Marks.{Marks}
+use Rattle.map.specs.Map.{faultOf, Marks}
 use Rattle.view.specs.Disk.{View, owned}
 use Rattle.view.specs.declared.Ruled.{Ruled}
 use Rattle.view.specs.declared.Ruled.the-variants.{Pass, Fail}
 use Rattle.view.specs.Rules.{walkOf, broken, sharing, stray, orFail}
+use Rattle.laws.specs.Member.{has}
 
 -- Refusals 6 to 9.
 unfoldable pub chainRules : Layout → View → Ruled
@@ -66,3 +66,7 @@ module _ (l : Layout) (v : View) where
       pub chain-pass : found ≡ Nowhere → Pass ≡ chainRules l v
       unfolding chainRules
       chain-pass t = rw (clean, ← claims, apart, ← strays, t) refl
+
+-- How many data blocks are on chains.
+abbrev pub taken : Layout → View → ℕ
+taken l v = count (has (owned v (l .slots))) (l .first) (l .blocks - l .first)

@@ -10,13 +10,11 @@ ghost use Rattle.laws.specs.declared.Lowest.the-variants.{Nowhere};
 ghost use Rattle.layout.specs.Layouts.{slotOffset, mapOffset, blockOffset};
 ghost use Rattle.layout.specs.Right.{LayoutRight};
 ghost use Rattle.blocks.specs.Blocks.{linksFor};
-ghost use Rattle.map.specs.Map.{mapAt, freeCount};
-ghost use Rattle.map.specs.Marks.{Marks};
+ghost use Rattle.map.specs.Map.{mapAt, freeCount, Marks};
 ghost use Rattle.view.specs.Disk.{owned};
 ghost use Rattle.view.specs.Rules.{badSystem, broken, sharing, stray};
 ghost use Rattle.image.specs.Image.{viewOf};
-ghost use Rattle.chains.specs.Passes.{Followed, chainRules};
-ghost use Rattle.chains.specs.Tally.{taken};
+ghost use Rattle.chains.specs.Passes.{Followed, chainRules, taken};
 
 // The lowest system block that doesn't hold the system value (refusal 3).
 pub fn system_fault(head: &[u8], layout: layout::Layout) -> laws::Lowest

@@ -29,8 +29,7 @@ use Rattle.layout.specs.declared.Density.{Density}
 use Rattle.layout.specs.Layouts.{layoutOf, lengthOf, blocksOf, firstOf, mapOffset, blockOffset}
 use Rattle.names.specs.Names.{legalName}
 use Rattle.map.specs.Map.{mapAt, freeCount}
-use Rattle.view.specs.Disk.{File}
-use Rattle.view.specs.Counting.{takes}
+use Rattle.view.specs.Disk.{File, takes}
 use Rattle.image.specs.Image.{filesIn, DiskRules}
 use Rattle.record.specs.Record.{Shape, Files, Call, list, page, refused, paged, Turn, fileCount, slotOf, fileAt, refuse, judgeName, stepFiles}
 use Rattle.record.specs.declared.Judged.the-variants.{Grant}
@@ -55,9 +54,8 @@ use Rattle.session.specs.Turns as scripts
 use Rattle.session.specs.Turns.{turns, leave}
 use Rattle.rows.specs.Failing.{Least}
 use Rattle.samples.specs.declared.Sampler.{Sampler}
-use Rattle.samples.specs.Samples.{countIn, headerOf, fileSize, roomFault, unpackOf, packOf}
+use Rattle.samples.specs.Samples.{countIn, headerOf, fileSize, roomFault, unpackOf, packOf, Bytes}
 use Rattle.samples.specs.Rules.{SampleRules}
-use Rattle.samples.specs.Back.{Bytes}
 use Rattle.samples.specs.Calls as codecs
 use Rattle.samples.specs.Calls.{Words, PackRules}
 use Rattle.program.specs.Program.{programOf, Sized, ProgramRules, Fails}

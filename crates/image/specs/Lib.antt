@@ -1,4 +1,3 @@
 pub mod Image
-pub mod Entries
-pub mod Effect
 pub mod Outside
+pub mod Lemmas

@@ -8,19 +8,21 @@ use Prim.Native.Nat.{ℕ, _+_, _≤_, _<_}
 use native.Mathlib.Decide.{decLt}
 use native.Mathlib.Omega.{arith}
 use lib.ListN.{length, replicate}
-use Rattle.laws.specs.Reader.{bytes, splice-off}
+use Rattle.laws.specs.Reader.{bytes}
+use Rattle.laws.specs.Lemmas.Reader.{splice-off}
 use Rattle.laws.specs.Member.{In}
 use Rattle.layout.specs.declared.Layout.{Layout}
 use Rattle.layout.specs.Layouts.{slotOffset, blockOffset, mapOffset}
 use Rattle.layout.specs.Right.{LayoutRight}
-use Rattle.blocks.specs.Blocks.{writeBlocks, write-off}
+use Rattle.blocks.specs.Blocks.{writeBlocks}
+use Rattle.blocks.specs.Lemmas.Blocks.{write-off}
 use Rattle.names.specs.Names.{legalName}
 use Rattle.names.specs.NameLaws.{length-area}
 use Rattle.map.specs.Map.{mapAt, freeAll}
-use Rattle.map.specs.Linking.{link-off, free-off}
+use Rattle.map.specs.Lemmas.Linking.{link-off, free-off}
 use Rattle.view.specs.Disk.{entryChain}
 use Rattle.image.specs.Image.{entryAt, removeImage, eraseEntry, entryBytes, setEntry, chosen, newEntry, fillBlocks, putImage}
-use Rattle.image.specs.Entries.{length-entry}
+use Rattle.image.specs.Lemmas.Entries.{length-entry}
 
 -- ---- places
 

@@ -6,5 +6,4 @@ pub mod Lists
 pub mod Reader
 pub mod Splice
 pub mod Padded
-pub mod Clip
-pub mod Search
+pub mod Lemmas

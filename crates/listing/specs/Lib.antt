@@ -1,3 +1,4 @@
 pub mod Listing
 pub mod Lines
 pub mod Puts
+pub mod Lemmas

@@ -11,8 +11,10 @@ use lib.ListN.{length, take, drop, length-take}
 use lib.Seq.{take-take}
 use borrow.Author.Tests.{ltb-true, ltb-false}
 use Rattle.laws.specs.declared.Refusal.{Refusal}
-use Rattle.laws.specs.Padded.{padded, take-padded}
-use Rattle.laws.specs.Reader.{bytes, tab, length-tab}
+use Rattle.laws.specs.Padded.{padded}
+use Rattle.laws.specs.Lemmas.Padded.{take-padded}
+use Rattle.laws.specs.Reader.{bytes, tab}
+use Rattle.laws.specs.Lemmas.Reader.{length-tab}
 use Rattle.laws.specs.Refusals.{refusalAt}
 use Rattle.laws.specs.Truth.{pick}
 use Rattle.layout.specs.declared.Density.{Density}
@@ -32,10 +34,10 @@ use Rattle.rules.specs.Accepted.{accepted-rules}
 use Rattle.rules.specs.Check.{checkOf, checkStart, answerOf, callOf}
 use Rattle.rules.specs.Demand.{check-call}
 use Rattle.rules.specs.Head.{read-head, head-agree, same-entry, start-check}
-use Rattle.disk.specs.Steps.{start-short, made-right, directory-held}
-use Rattle.calls.specs.Done.{list-done}
-use Rattle.calls.specs.Listing.{lent-area}
-use Rattle.calls.specs.Slots.{file-empty, file-used, file-length}
+use Rattle.disk.specs.Lemmas.Steps.{start-short, made-right, directory-held}
+use Rattle.calls.specs.Lemmas.Done.{list-done}
+use Rattle.calls.specs.Lemmas.Listing.{lent-area}
+use Rattle.calls.specs.Lemmas.Slots.{file-empty, file-used, file-length}
 use Rattle.listing.specs.Listing.{ascii, orRefused, checkText, slotLines, endLine, listingOf}
 
 -- List's answer for a slot of the head.

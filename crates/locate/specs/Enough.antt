@@ -14,21 +14,24 @@ use Rattle.laws.specs.declared.Refusal.{Refusal}
 use Rattle.laws.specs.declared.Counted.{Counted}
 use Rattle.laws.specs.declared.Counted.the-variants.{Done}
 use Rattle.laws.specs.declared.Counted.the-variants as counted
-use Rattle.laws.specs.Refusals.{refusalAt, Filled, refused-done}
+use Rattle.laws.specs.Refusals.{refusalAt, Filled}
+use Rattle.laws.specs.Lemmas.Refusals.{refused-done}
 use Rattle.laws.specs.Member.{In}
-use Rattle.laws.specs.Scan.{lowest-cong}
+use Rattle.laws.specs.Lemmas.Scan.{lowest-cong}
 use Rattle.laws.specs.declared.Lowest.{Lowest}
-use Rattle.laws.specs.Splice.{part, part-splice}
+use Rattle.laws.specs.Splice.{part}
+use Rattle.laws.specs.Lemmas.Splice.{part-splice}
 use Rattle.laws.specs.Reader.{bytes}
 use Rattle.layout.specs.declared.Kind.{Kind}
 use Rattle.layout.specs.declared.Density.{Density}
 use Rattle.layout.specs.declared.Layout.{Layout}
 use Rattle.layout.specs.Layouts.{layoutOf}
 use Rattle.layout.specs.Right.{LayoutRight, layout-right}
-use Rattle.blocks.specs.Blocks.{linksFor, blockAt, read-cong}
+use Rattle.blocks.specs.Blocks.{linksFor, blockAt}
+use Rattle.blocks.specs.Lemmas.Blocks.{read-cong}
 use Rattle.names.specs.Names.{legalName}
 use Rattle.map.specs.Map.{mapAt}
-use Rattle.map.specs.Chains.{length-chain, chain-cong, chain-data, chain-short}
+use Rattle.map.specs.Lemmas.Chains.{length-chain, chain-cong, chain-data, chain-short}
 use Rattle.view.specs.Disk.{File, used, entryChain, chainOf, contentOf, filesOf}
 use Rattle.image.specs.Image.{viewOf, filesIn, DiskRules}
 use Rattle.record.specs.Record.{Call, list, find, page, refusedBy, Outcome, named, refuseIf, orRefuse, slotOf, fileAt, judgeName, listing, paging}
@@ -41,8 +44,8 @@ use Rattle.rules.specs.Check.{checkOf, refusalOf, callOf}
 use Rattle.rules.specs.Accepted.{accepted-rules}
 use Rattle.rules.specs.Head.{Read, read-head, head-agree, head-decides, same-map, same-entry}
 use Rattle.calls.specs.Answers.{foundOf, foundBy, call-refused}
-use Rattle.calls.specs.Slots.{file-above, file-empty, file-used, file-length}
-use Rattle.calls.specs.Done.{list-done, find-done, page-done}
+use Rattle.calls.specs.Lemmas.Slots.{file-above, file-empty, file-used, file-length}
+use Rattle.calls.specs.Lemmas.Done.{list-done, find-done, page-done}
 use Rattle.locate.specs.Locate.{fileBlocks, storing, blocksBy, blocksOf}
 
 -- y has x's length and x's first 5,120 bytes.

@@ -21,7 +21,7 @@ use Rattle.layout.specs.Layouts.{layoutOf}
 use Rattle.blocks.specs.Blocks.{linksFor}
 use Rattle.map.specs.declared.Blocks as collections
 use Rattle.map.specs.Map.{mapAt, chain, Collected}
-use Rattle.map.specs.Chains.{length-chain}
+use Rattle.map.specs.Lemmas.Chains.{length-chain}
 use Rattle.view.specs.Disk.{used, entryChain, chainOf}
 use Rattle.image.specs.Image.{viewOf}
 use Rattle.rules.specs.declared.Checked.{Checked}

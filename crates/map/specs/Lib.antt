@@ -1,7 +1,2 @@
 pub mod Map
-pub mod Chains
-pub mod Walks
-pub mod Free
-pub mod Collect
-pub mod Linking
-pub mod Marks
+pub mod Lemmas

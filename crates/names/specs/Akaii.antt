@@ -7,8 +7,10 @@ use native.Mathlib.Decide.{decLt}
 use native.Mathlib.Omega.{arith}
 use lib.Dec.{eqb}
 use borrow.Author.Tests.{eqb-true, ne-eqb}
-use Rattle.laws.specs.Truth.{within-above, pick, both, both-true, within}
-use Rattle.laws.specs.Scan.{all, all→}
+use Rattle.laws.specs.Lemmas.Truth.{within-above, both-true}
+use Rattle.laws.specs.Truth.{pick, both, within}
+use Rattle.laws.specs.Scan.{all}
+use Rattle.laws.specs.Lemmas.Scan.{all→}
 use Rattle.names.specs.declared.Converted.{Converted}
 use Rattle.names.specs.declared.Converted.the-variants.{Byte, NoImage}
 

@@ -10,8 +10,10 @@ use lib.ListN.{length, take, drop, getD, replicate, length-map, length-append, l
 use lib.Seq.{take-at, drop-at, length-take-le}
 use lib.Dec.{leb, eqb}
 use borrow.Author.Tests.{eqb-true, eq-eqb, leb-true, le-leb}
-use Rattle.laws.specs.Truth.{both-true, true-both, within, within-in, within-above}
-use Rattle.laws.specs.Lists.{allOf, same, same-refl, same-true}
+use Rattle.laws.specs.Lemmas.Truth.{both-true, true-both, within-in, within-above}
+use Rattle.laws.specs.Truth.{within}
+use Rattle.laws.specs.Lists.{allOf, same}
+use Rattle.laws.specs.Lemmas.Lists.{same-refl, same-true}
 use Rattle.layout.specs.declared.Layout.{Layout}
 use Rattle.layout.specs.Layouts.{s900, s1000}
 use Rattle.layout.specs.Right.{LayoutRight}

@@ -10,8 +10,10 @@ use native.Mathlib.Omega.{arith}
 use lib.Dec.{leb, eqb}
 use lib.ListN.{length}
 use borrow.Author.Tests.{leb-true, eqb-true}
-use Rattle.laws.specs.Truth.{both-true, within}
-use Rattle.laws.specs.Refusals.{refusalAt, refused-done}
+use Rattle.laws.specs.Lemmas.Truth.{both-true}
+use Rattle.laws.specs.Truth.{within}
+use Rattle.laws.specs.Refusals.{refusalAt}
+use Rattle.laws.specs.Lemmas.Refusals.{refused-done}
 use Rattle.laws.specs.declared.Lowest.{Lowest}
 use Rattle.laws.specs.declared.Refusal.{Refusal}
 use Rattle.laws.specs.declared.Lowest.the-variants.{At, Nowhere}
@@ -22,7 +24,7 @@ use Rattle.laws.specs.declared.Counted.the-variants.{Done, Refused}
 use Rattle.headers.specs.Tables.{rowsOf}
 use Rattle.headers.specs.Order.{tables-in-order}
 use Rattle.program.specs.Program.{tableOf, partAt, keygroupsOf, partFault, partsFault, counted, answerOf, programOf, PartKept, PartFails, Sized, ProgramRules, Fails}
-use Rattle.program.specs.Arms.{program-short, uncounted, program-answer}
+use Rattle.program.specs.Lemmas.Arms.{program-short, uncounted, program-answer}
 
 -- ---- the parts from part k on
 

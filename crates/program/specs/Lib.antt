@@ -1,3 +1,3 @@
 pub mod Program
-pub mod Arms
 pub mod Accepted
+pub mod Lemmas

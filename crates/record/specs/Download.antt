@@ -11,7 +11,8 @@ use lib.Dec.{eqb}
 use lib.ListN.{length, take, drop, length-take}
 use lib.Seq.{take-at, take-add, take-all}
 use borrow.Author.Tests.{eqb-true, eq-eqb, lt-ltb, le-ltb}
-use Rattle.laws.specs.Splice.{part, length-part}
+use Rattle.laws.specs.Splice.{part}
+use Rattle.laws.specs.Lemmas.Splice.{length-part}
 use Rattle.view.specs.Disk.{File}
 use Rattle.record.specs.Record.{Shape, Files, page, remove, Answer, Turn, fileAt, pageOf, stepFiles}
 use Rattle.record.specs.Others.{others}

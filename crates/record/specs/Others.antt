@@ -6,14 +6,14 @@ use mathlib.Core.List.{List}
 use mathlib.Core.Option.{Option, none, some}
 use Prim.Native.Nat.{ℕ}
 use borrow.Author.Tests.{ne-eqb}
-use Rattle.laws.specs.Scan.{at→}
-use Rattle.laws.specs.Lists.{same-true}
+use Rattle.laws.specs.Lemmas.Scan.{at→}
+use Rattle.laws.specs.Lemmas.Lists.{same-true}
 use Rattle.layout.specs.declared.Layout.{Layout}
 use Rattle.view.specs.Disk.{File}
 use Rattle.record.specs.Record.{Shape, Files, Call, check, list, find, page, put, remove, named, isEmpty, replaced, slotOf, emptySlot, judgeName, judgePut, stepFiles}
 use Rattle.record.specs.declared.Judged.{Judged}
 use Rattle.record.specs.declared.Judged.the-variants.{Refuse, Grant}
-use Rattle.record.specs.Granted.{granted-name, granted-put}
+use Rattle.record.specs.Lemmas.Granted.{granted-name, granted-put}
 use Rattle.record.specs.Step.{Reading, reads-check, reads-list, reads-find, reads-page, reading-keeps}
 
 module _ (shape : Shape) (files : Files) (t : ℕ) (f : File) (there : files t ≡ some f) where

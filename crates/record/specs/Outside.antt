@@ -9,15 +9,14 @@ use Rattle.laws.specs.Reader.{bytes}
 use Rattle.layout.specs.declared.Layout.{Layout}
 use Rattle.layout.specs.Layouts.{slotOffset, blockOffset}
 use Rattle.layout.specs.Right.{LayoutRight, DirectoryApart}
-use Rattle.map.specs.Map.{Data}
-use Rattle.map.specs.Linking.{Outside}
+use Rattle.map.specs.Map.{Data, Outside}
 use Rattle.image.specs.Image.{filesIn, DiskRules}
 use Rattle.image.specs.Outside.{Within, InEntry, InMap, InBlock, RemoveTouches, PutTouches, remove-outside, put-outside}
 use Rattle.record.specs.Record.{Call, check, list, find, page, put, remove, judgeName, judgePut}
 use Rattle.record.specs.declared.Judged.{Judged}
 use Rattle.record.specs.declared.Judged.the-variants.{Refuse, Grant}
-use Rattle.record.specs.Granted.{granted-put}
-use Rattle.record.specs.Update.{remove-slot, remove-inside, put-slot, chosen-inside}
+use Rattle.record.specs.Lemmas.Granted.{granted-put}
+use Rattle.record.specs.Lemmas.Update.{remove-slot, remove-inside, put-slot, chosen-inside}
 use Rattle.record.specs.Step.{imageAfter}
 
 -- A call that only reads or is refused touches no byte, and a granted put or remove those of the slot granted.

@@ -20,12 +20,11 @@ use Rattle.layout.specs.declared.Layout.{Layout}
 use Rattle.layout.specs.Layouts.{layoutOf}
 use Rattle.blocks.specs.Blocks.{blocksFor}
 use Rattle.names.specs.Names.{legalName, legalType}
-use Rattle.view.specs.Disk.{File}
+use Rattle.view.specs.Disk.{File, takes}
 use Rattle.laws.specs.declared.Refusal.{Refusal}
 use Rattle.laws.specs.Refusals.{refusalAt}
 use Rattle.record.specs.declared.Judged.{Judged}
 use Rattle.record.specs.declared.Judged.the-variants.{Refuse, Grant}
-use Rattle.view.specs.Counting.{takes}
 
 -- What stays over all calls: kind and density, and the layout that they fix.
 pub record Shape : Type 0 where

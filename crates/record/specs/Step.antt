@@ -14,7 +14,7 @@ use Rattle.image.specs.Image.{filesIn, DiskRules, removeImage, putImage}
 use Rattle.record.specs.Record.{Shape, Files, Call, check, list, find, page, put, remove, Outcome, judgeName, judgePut, fileAt, finding, listing, paging, putting, removing, stepFiles}
 use Rattle.record.specs.declared.Judged.{Judged}
 use Rattle.record.specs.declared.Judged.the-variants.{Refuse, Grant}
-use Rattle.record.specs.Update.{remove-rules, remove-files, put-rules, put-files}
+use Rattle.record.specs.Lemmas.Update.{remove-rules, remove-files, put-rules, put-files}
 
 -- The image that a judged call leaves.
 abbrev pub after : List ℕ → (ℕ → List ℕ) → Judged → List ℕ

@@ -8,8 +8,10 @@ use Prim.Native.Nat.{ℕ, _+_, _*_, _≤_, _<_}
 use native.Mathlib.Omega.{arith}
 use lib.Dec.{leb}
 use borrow.Author.Tests.{leb-true}
-use Rattle.laws.specs.Truth.{pick, both, both-true, clash}
-use Rattle.laws.specs.Scan.{lowest, nowhere→, →nowhere, at→, lowest-least}
+use Rattle.laws.specs.Truth.{pick, both}
+use Rattle.laws.specs.Lemmas.Truth.{both-true, clash}
+use Rattle.laws.specs.Scan.{lowest}
+use Rattle.laws.specs.Lemmas.Scan.{nowhere→, →nowhere, at→, lowest-least}
 use Rattle.laws.specs.declared.Lowest.{Lowest}
 use Rattle.laws.specs.declared.Lowest.the-variants.{At, Nowhere}
 use Rattle.rows.specs.declared.Width.{Width}

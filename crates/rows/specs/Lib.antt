@@ -1,4 +1,4 @@
 pub mod Rows
-pub mod Arms
 pub mod Failing
 pub mod Signed
+pub mod Lemmas

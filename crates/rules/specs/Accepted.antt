@@ -12,7 +12,7 @@ use lib.ListN.{length}
 use borrow.Author.Tests.{eqb-true, eq-eqb, ne-eqb}
 use Rattle.laws.specs.Truth.{pick}
 use Rattle.laws.specs.declared.Refusal.{Refusal}
-use Rattle.laws.specs.Scan.{all→, →all, count-cong}
+use Rattle.laws.specs.Lemmas.Scan.{all→, →all, count-cong}
 use Rattle.laws.specs.Reader.{bytes}
 use Rattle.layout.specs.declared.Kind.{Kind}
 use Rattle.layout.specs.declared.Kind.the-variants.{S900, S1000}
@@ -29,11 +29,11 @@ use Rattle.view.specs.Rules.{rules}
 use Rattle.view.specs.Exactly.{passed-valid, valid-passed}
 use Rattle.image.specs.Image.{identityAt, viewOf, filesIn, DiskRules}
 use Rattle.record.specs.Record.{isEmpty, fileCount}
-use Rattle.record.specs.Update.{empty-used}
+use Rattle.record.specs.Lemmas.Update.{empty-used}
 use Rattle.rules.specs.declared.Checked.{Checked}
 use Rattle.rules.specs.declared.Checked.the-variants.{Accepted, Refused}
 use Rattle.rules.specs.Check.{densityOf, hasIdentity, kindOf, usedCount, checkAs, checkOf}
-use Rattle.rules.specs.Steps.{head-none, head-some, kinds-none, kinds-some, as-passed, as-failed}
+use Rattle.rules.specs.Lemmas.Steps.{head-none, head-some, kinds-none, kinds-some, as-passed, as-failed}
 
 -- The check's answer for an image that meets the rules.
 abbrev pub acceptedAs : Kind → Density → List ℕ → Checked

@@ -11,11 +11,13 @@ use native.Mathlib.Omega.{arith}
 use lib.Dec.{ltb, eqb}
 use lib.ListN.{length, drop}
 use borrow.Author.Tests.{lt-ltb, ltb-true}
-use Rattle.laws.specs.Truth.{clash, false-if}
-use Rattle.laws.specs.Scan.{lowest, nowhere→, →nowhere, total}
+use Rattle.laws.specs.Lemmas.Truth.{clash, false-if}
+use Rattle.laws.specs.Scan.{lowest, total}
+use Rattle.laws.specs.Lemmas.Scan.{nowhere→, →nowhere}
 use Rattle.laws.specs.declared.Lowest.{Lowest}
 use Rattle.laws.specs.declared.Lowest.the-variants.{At, Nowhere}
-use Rattle.laws.specs.Lists.{same, same-true}
+use Rattle.laws.specs.Lists.{same}
+use Rattle.laws.specs.Lemmas.Lists.{same-true}
 use Rattle.laws.specs.Splice.{part}
 use Rattle.laws.specs.Reader.{bytes}
 use Rattle.layout.specs.declared.Kind.{Kind}
@@ -27,15 +29,14 @@ use Rattle.layout.specs.Right.{layout-right}
 use Rattle.blocks.specs.Blocks.{blocksFor}
 use Rattle.names.specs.Names.{legalName, legalType}
 use Rattle.map.specs.Map.{mapAt, freeCount}
-use Rattle.view.specs.Disk.{File}
-use Rattle.view.specs.Counting.{takes}
-use Rattle.view.specs.Kept.{file-out}
+use Rattle.view.specs.Disk.{File, takes}
+use Rattle.view.specs.Lemmas.Kept.{file-out}
 use Rattle.image.specs.Image.{viewOf, filesIn, DiskRules}
 use Rattle.record.specs.Record.{shapeOf, Files, Call, check, page, paged, put, remove, Answer, Turn, numberIn, Outcome, refused, refuseIf, named, isEmpty, slotOf, emptySlot, judgePut, putting, stepFiles}
 use Rattle.record.specs.declared.Judged.{Judged}
 use Rattle.record.specs.declared.Judged.the-variants.{Refuse, Grant}
 use Rattle.record.specs.Order.{roomFor, order-room}
-use Rattle.record.specs.Update.{area-split, free-is}
+use Rattle.record.specs.Lemmas.Update.{area-split, free-is}
 use Rattle.record.specs.Step.{imageAfter, stepImage, step}
 use Rattle.record.specs.Others as record-others
 use Rattle.record.specs.Download as record-download

@@ -22,7 +22,7 @@ use Rattle.view.specs.Exactly.{refused-due}
 use Rattle.image.specs.Image.{viewOf}
 use Rattle.rules.specs.declared.Checked.the-variants.{Refused}
 use Rattle.rules.specs.Check.{densityOf, kindOf, checkAs, checkKinds, checkOf}
-use Rattle.rules.specs.Steps.{head-none, head-some, kinds-none, kinds-some, as-passed, as-failed}
+use Rattle.rules.specs.Lemmas.Steps.{head-none, head-some, kinds-none, kinds-some, as-passed, as-failed}
 use Rattle.rules.specs.Accepted.{Identified, density-is, is-density, kind-is, is-kind}
 
 -- A refusal is due to an image.

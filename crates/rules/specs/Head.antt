@@ -12,7 +12,7 @@ use lib.ListN.{length, take, length-take}
 use lib.Seq.{getD-take, take-take}
 use borrow.Author.Tests.{le-ltb}
 use Rattle.laws.specs.Truth.{pick}
-use Rattle.laws.specs.Scan.{all-cong, count-cong}
+use Rattle.laws.specs.Lemmas.Scan.{all-cong, count-cong}
 use Rattle.laws.specs.Reader.{bytes}
 use Rattle.layout.specs.declared.Kind.{Kind}
 use Rattle.layout.specs.declared.Kind.the-variants.{S900, S1000}
@@ -21,15 +21,15 @@ use Rattle.layout.specs.declared.Density.the-variants.{Low, High}
 use Rattle.layout.specs.declared.Layout.{Layout}
 use Rattle.layout.specs.Layouts.{layoutOf, lengthOf, blockOffset, mapOffset, slotOffset}
 use Rattle.layout.specs.Right.{LayoutRight, layout-right}
-use Rattle.blocks.specs.Numbers.{number-cong}
+use Rattle.blocks.specs.Lemmas.Numbers.{number-cong}
 use Rattle.map.specs.Map.{mapAt, freeCount}
 use Rattle.view.specs.Disk.{used}
-use Rattle.view.specs.Head.{same-rules}
+use Rattle.view.specs.Lemmas.Head.{same-rules}
 use Rattle.image.specs.Image.{identityAt, viewOf}
-use Rattle.image.specs.Entries.{entry-cong}
+use Rattle.image.specs.Lemmas.Entries.{entry-cong}
 use Rattle.rules.specs.Accepted.{density-is}
 use Rattle.rules.specs.Check.{densityOf, hasIdentity, kindOf, usedCount, checkAs, checkKinds, checkHead, checkOf, checkStart}
-use Rattle.rules.specs.Steps.{head-none, head-some, kinds-none, kinds-some}
+use Rattle.rules.specs.Lemmas.Steps.{head-none, head-some, kinds-none, kinds-some}
 
 -- The check reads a byte of an image of this layout: it lies in the directory or in the map.
 abbrev pub Read : Layout → ℕ → Type 0

@@ -1,5 +1,4 @@
 pub mod Check
-pub mod Steps
 pub mod Accepted
 pub mod Exactly
 pub mod Head
@@ -7,3 +6,4 @@ pub mod Demand
 pub mod Refused
 pub mod Outside
 pub mod Small
+pub mod Lemmas

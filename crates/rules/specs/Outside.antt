@@ -13,7 +13,7 @@ use Rattle.layout.specs.declared.Density.{Density}
 use Rattle.layout.specs.declared.Layout.{Layout}
 use Rattle.layout.specs.Layouts.{layoutOf, slotOffset, blockOffset, mapOffset}
 use Rattle.layout.specs.Right.{layout-right}
-use Rattle.map.specs.Linking.{Outside}
+use Rattle.map.specs.Map.{Outside}
 use Rattle.image.specs.Outside.{Within, InMap}
 use Rattle.record.specs.Record.{shapeOf, Call}
 use Rattle.record.specs.Step.{stepImage, step}

@@ -12,7 +12,8 @@ use lib.ListN.{length}
 use borrow.Author.Tests.{ltb-true}
 use Rattle.laws.specs.Reader.{bytes}
 use Rattle.laws.specs.Truth.{both}
-use Rattle.laws.specs.Scan.{lowest, at→, count-split, total-has}
+use Rattle.laws.specs.Scan.{lowest}
+use Rattle.laws.specs.Lemmas.Scan.{at→, count-split, total-has}
 use Rattle.laws.specs.declared.Lowest.{Lowest}
 use Rattle.laws.specs.declared.Lowest.the-variants.{At, Nowhere}
 use Rattle.layout.specs.declared.Kind.{Kind}
@@ -25,14 +26,13 @@ use Rattle.names.specs.Names.{legalName, legalType}
 use Rattle.map.specs.Map.{Astray, Miscounted}
 use Rattle.laws.specs.declared.Refusal.{Refusal}
 use Rattle.laws.specs.Refusals.{refusalAt}
-use Rattle.view.specs.Disk.{View, File}
-use Rattle.view.specs.Counting.{takes}
+use Rattle.view.specs.Disk.{View, File, takes}
 use Rattle.view.specs.Broken.{Rule, system, legal, single, linked, apart, owner, Breaks}
 use Rattle.image.specs.Image.{viewOf, filesIn, DiskRules}
 use Rattle.record.specs.Record.{shapeOf, Files, Call, check, list, find, page, put, remove, Answer, refusedBy, refused, gives, refuseIf, refuseAt, orRefuse, replaced, slotOf, emptySlot, isEmpty, named, fileCount, free, judgeName, judgePut, fileAt, listing, finding, putting, removing, paging, stepFiles}
 use Rattle.record.specs.declared.Judged.{Judged}
 use Rattle.record.specs.declared.Judged.the-variants.{Refuse, Grant}
-use Rattle.record.specs.Update.{area-split}
+use Rattle.record.specs.Lemmas.Update.{area-split}
 use Rattle.record.specs.Step.{stepImage}
 use Rattle.rules.specs.declared.Checked.{Checked}
 use Rattle.rules.specs.declared.Checked.the-variants.{Accepted, Refused}

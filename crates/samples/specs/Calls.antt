@@ -12,19 +12,21 @@ use lib.Seq.{sets, sets-eq, take-at, drop-at, getD-drop}
 use lib.Dec.{ltb}
 use borrow.Author.Tests.{ltb-false}
 use Rattle.laws.specs.Truth.{pick}
-use Rattle.laws.specs.Refusals.{refused-done, Filled, filled, unless}
-use Rattle.laws.specs.Scan.{nowhere→, →nowhere}
-use Rattle.laws.specs.Splice.{splice, part, part-splice}
+use Rattle.laws.specs.Lemmas.Refusals.{refused-done}
+use Rattle.laws.specs.Refusals.{Filled, filled, unless}
+use Rattle.laws.specs.Lemmas.Scan.{nowhere→, →nowhere}
+use Rattle.laws.specs.Splice.{splice, part}
+use Rattle.laws.specs.Lemmas.Splice.{part-splice}
 use Rattle.laws.specs.declared.Lowest.{Lowest}
 use Rattle.laws.specs.declared.Lowest.the-variants.{At, Nowhere}
 use Rattle.laws.specs.declared.Counted.the-variants.{Done}
 use Rattle.words.specs.Words.{holds}
 use Rattle.samples.specs.declared.Sampler.{Sampler}
 use Rattle.samples.specs.declared.Sampler.the-variants.{S900, S1000}
-use Rattle.samples.specs.Samples.{headerSize, dataSize, isWhole, countIn, fileSize, packed, headerOf, wordsOf, fileFault, headerFault, isOutside, rangeFault, roomFault, unpackOf, packOf}
+use Rattle.samples.specs.Samples.{headerSize, dataSize, isWhole, countIn, fileSize, packed, headerOf, wordsOf, fileFault, headerFault, isOutside, rangeFault, roomFault, unpackOf, packOf, Held, Bytes}
 use Rattle.samples.specs.Rules.{HeaderRules, SampleRules, file-accepted, header-accepted}
-use Rattle.samples.specs.Steps.{enough-room}
-use Rattle.samples.specs.Back.{Held, Bytes, length-packed, unpacked-packed, length-unpacked, held-unpacked, packed-unpacked}
+use Rattle.samples.specs.Lemmas.Steps.{enough-room}
+use Rattle.samples.specs.Lemmas.Back.{length-packed, unpacked-packed, length-unpacked, held-unpacked, packed-unpacked}
 
 -- Every element is a word of 16 bits.
 abbrev pub Words : List ℤ → Type 0

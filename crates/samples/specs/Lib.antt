@@ -1,6 +1,4 @@
 pub mod Samples
-pub mod Data
 pub mod Rules
-pub mod Steps
-pub mod Back
 pub mod Calls
+pub mod Lemmas

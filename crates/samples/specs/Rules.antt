@@ -10,7 +10,8 @@ use lib.Dec.{ltb, eqb}
 use lib.ListN.{length}
 use lib.Seq.{length-take-le}
 use borrow.Author.Tests.{le-ltb, ltb-false, eq-eqb, eqb-true}
-use Rattle.laws.specs.Truth.{pick, both, both-true}
+use Rattle.laws.specs.Truth.{pick, both}
+use Rattle.laws.specs.Lemmas.Truth.{both-true}
 use Rattle.laws.specs.declared.Lowest.{Lowest}
 use Rattle.laws.specs.declared.Lowest.the-variants.{At, Nowhere}
 use Rattle.rows.specs.Failing.{AllKept, faultless}

@@ -21,10 +21,16 @@ use Rattle.headers.specs.declared.Table.{Table}
 use Rattle.headers.specs.declared.Table.the-variants.{Sample900, Sample1000}
 use Rattle.laws.specs.declared.Counted.the-variants.{Done}
 use Rattle.laws.specs.Refusals.{Filled, filled, unless}
-use Rattle.words.specs.Parts.{parts}
-use Rattle.words.specs.Words.{wordOf, holds, bitsAt, packed900, unpacked900}
+use Rattle.words.specs.Words.{parts, wordOf, holds, bitsAt, packed900, unpacked900}
 use Rattle.samples.specs.declared.Sampler.{Sampler}
 use Rattle.samples.specs.declared.Sampler.the-variants.{S900, S1000}
+use Prim.Native.Nat.{ℕ}
+use mathlib.Core.Path.{_≡_}
+use mathlib.Core.Bool.{true}
+use mathlib.Core.List.{List}
+use Prim.Native.Nat.{ℕ, _<_}
+use lib.ListN.{length, getD}
+use lib.ListN.{getD}
 
 -- ---- the parts of a file
 
@@ -141,3 +147,17 @@ packOf sampler header words output =
     (unless 19 (rangeFault sampler words) output
     (unless 21 (roomFault (length output) due) output
     (filled (Done due) (splice output 0 (header ++ packed sampler words)))))
+
+-- ---- both samplers
+
+-- The first number that a sampler's bits do not hold.
+abbrev pub bitsSize : Sampler → ℕ
+bitsSize S900 = 4096
+bitsSize S1000 = 65536
+
+-- The sampler's bits hold every word; every byte is one.
+abbrev pub Held : Sampler → List ℤ → Type 0
+Held sampler words = (i : ℕ) → i < length words → holds (bitsSize sampler) (getD words i (pos 0)) ≡ true
+
+abbrev pub Bytes : List ℕ → Type 0
+Bytes l = (k : ℕ) → getD l k 0 < 256

@@ -1,4 +1,4 @@
 pub mod Script
-pub mod Entries
 pub mod Turns
 pub mod Replies
+pub mod Lemmas

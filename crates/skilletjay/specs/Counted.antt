@@ -13,7 +13,8 @@ use Rattle.laws.specs.Truth.{pick}
 use Rattle.laws.specs.declared.Lowest.{Lowest}
 use Rattle.laws.specs.declared.Lowest.the-variants.{At, Nowhere}
 use Rattle.laws.specs.declared.Counted.the-variants.{Refused}
-use Rattle.laws.specs.Refusals.{refusalAt, Filled, filled, Keeps, keeps-refused, keeps-done, keeps-unless}
+use Rattle.laws.specs.Refusals.{refusalAt, Filled, filled, Keeps}
+use Rattle.laws.specs.Lemmas.Refusals.{keeps-refused, keeps-done, keeps-unless}
 use Rattle.layout.specs.Layouts.{layoutOf}
 use Rattle.record.specs.Record.{check, Answer}
 use Rattle.rules.specs.declared.Checked.{Checked}

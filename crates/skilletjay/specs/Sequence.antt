@@ -10,9 +10,10 @@ use native.Mathlib.Omega.{arith}
 use lib.Dec.{ltb}
 use lib.ListN.{length}
 use borrow.Author.Tests.{ne-eqb}
-use Rattle.laws.specs.Padded.{take-padded}
+use Rattle.laws.specs.Lemmas.Padded.{take-padded}
 use Rattle.laws.specs.declared.Refusal.{Refusal}
-use Rattle.laws.specs.Reader.{bytes, length-tab}
+use Rattle.laws.specs.Reader.{bytes}
+use Rattle.laws.specs.Lemmas.Reader.{length-tab}
 use Rattle.layout.specs.declared.Kind.{Kind}
 use Rattle.layout.specs.declared.Density.{Density}
 use Rattle.layout.specs.declared.Layout.{Layout}
@@ -30,7 +31,7 @@ use Rattle.rules.specs.Check.{checkOf, callOf, Made}
 use Rattle.rules.specs.Accepted.{accepted-rules}
 use Rattle.rules.specs.Small.{Numbered, refusal-numbered}
 use Rattle.rules.specs.Demand.{call-is, Ran, Behaves, demand-3}
-use Rattle.calls.specs.Slots.{slotFile, file-above, file-empty, file-used}
+use Rattle.calls.specs.Lemmas.Slots.{slotFile, file-above, file-empty, file-used}
 use Rattle.skilletjay.specs.Results.{checkedResult, listedResult, foundResult, pagedResult, doneResult}
 use Rattle.skilletjay.specs.Told.{CTurn, checked, listed, found, paged, placed, removed, Told, refusalIn, checkedIn, listedIn, foundIn, pagedIn, doneIn, turnIn, CRan, turnsIn}
 

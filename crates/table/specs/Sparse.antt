@@ -9,7 +9,7 @@ use lib.Seq.{getD-set-same, getD-set-other}
 use lib.Dec.{T, ltb, eqb, ltb→lt}
 use borrow.Author.Tests.{eqb-true, eqb-false}
 use Rattle.laws.specs.Truth.{pick, both}
-use Rattle.laws.specs.Padded.{getD-zeros}
+use Rattle.laws.specs.Lemmas.Padded.{getD-zeros}
 use Rattle.laws.specs.Reader.{bytes}
 use Rattle.layout.specs.declared.Layout.{Layout}
 use Rattle.layout.specs.Layouts.{mapOffset, slotOffset}

@@ -14,12 +14,12 @@ use Rattle.layout.specs.Layouts.{layoutOf}
 use Rattle.layout.specs.Right.{layout-right}
 use Rattle.blocks.specs.Numbers.{number}
 use Rattle.map.specs.Map.{mapAt}
-use Rattle.map.specs.Chains.{Linked}
+use Rattle.map.specs.Lemmas.Chains.{Linked}
 use Rattle.view.specs.Disk.{filesOf}
 use Rattle.image.specs.Image.{entryAt, viewOf, filesIn, chosen, putImage}
 use Rattle.record.specs.Record.{Call, put, judgePut}
 use Rattle.record.specs.declared.Judged.the-variants.{Grant}
-use Rattle.record.specs.Update.{put-effect}
+use Rattle.record.specs.Lemmas.Update.{put-effect}
 use Rattle.rules.specs.declared.Checked.{Checked}
 use Rattle.laws.specs.Refusals.{refusalAt}
 use Rattle.rules.specs.declared.Checked.the-variants.{Accepted, Refused}

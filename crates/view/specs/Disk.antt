@@ -10,9 +10,11 @@ use lib.Dec.{leb, ltb, eqb}
 use Rattle.laws.specs.Truth.{pick, both}
 use Rattle.laws.specs.Member.{In}
 use Rattle.layout.specs.declared.Layout.{Layout}
-use Rattle.blocks.specs.Blocks.{linksFor, readBlocks}
+use Rattle.blocks.specs.Blocks.{linksFor, readBlocks, blocksFor}
 use Rattle.names.specs.Names.{legalArea, legalType, nameOf}
 use Rattle.map.specs.Map.{Data, chain, Chained}
+use Prim.Native.Nat.{ℕ}
+use lib.ListN.{length}
 
 -- A directory entry: the name's area, the type, the length and the start block.
 pub record Entry : Type 0 where
@@ -95,3 +97,8 @@ pub record Valid (l : Layout) (v : View) : Type 0 where
   pub apart : (s t b : ℕ) → Owns l v s b → Owns l v t b → s ≡ t
   -- no data block is marked used without a file
   pub owner : (b : ℕ) → Data l b → (v .map b ≡ 0 → ⊥) → (s : ℕ) × Owns l v s b
+
+-- The blocks that a file takes.
+abbrev pub takes : Option File → ℕ
+takes none = 0
+takes (some f) = blocksFor (length (f .content))

@@ -8,23 +8,26 @@ use native.Mathlib.Decide.{decLt, ℕ-discrete}
 use native.Mathlib.Omega.{arith}
 use lib.Dec.{eqb}
 use borrow.Author.Tests.{eqb-false, ne-eqb, eqb-true, not-true}
-use Rattle.laws.specs.Truth.{both-true, true-both, clash, true-if, false-if}
+use Rattle.laws.specs.Lemmas.Truth.{both-true, true-both, clash, true-if, false-if}
 use Rattle.laws.specs.Refusals.{refusalAt}
-use Rattle.laws.specs.Scan.{lowest, nowhere→, →nowhere, at→, lowest-least, any, none→, some→}
+use Rattle.laws.specs.Scan.{lowest, any}
+use Rattle.laws.specs.Lemmas.Scan.{nowhere→, →nowhere, at→, lowest-least, none→, some→}
 use Rattle.laws.specs.declared.Refusal.{Refusal}
 use Rattle.laws.specs.declared.Lowest.{Lowest}
 use Rattle.laws.specs.declared.Lowest.the-variants.{At, Nowhere}
-use Rattle.laws.specs.Lists.{same, same-refl, same-true, meets, apart-of, meeting}
-use Rattle.laws.specs.Member.{In, has, in-has, out-has, decIn}
+use Rattle.laws.specs.Lists.{same, meets}
+use Rattle.laws.specs.Lemmas.Lists.{same-refl, same-true, apart-of, meeting}
+use Rattle.laws.specs.Member.{In, has}
+use Rattle.laws.specs.Lemmas.Member.{in-has, out-has, decIn}
 use Rattle.layout.specs.declared.Layout.{Layout}
 use Rattle.layout.specs.Right.{LayoutRight}
 use Rattle.blocks.specs.Blocks.{linksFor}
 use Rattle.map.specs.Map.{Walk, Whole, Bad, Cut, Data, Chained, Astray, Miscounted, isWhole, faultOf}
-use Rattle.map.specs.Walks.{walk-chained, chained-walk, walk-astray, walk-miscounted, astray-walk, miscounted-walk}
+use Rattle.map.specs.Lemmas.Walks.{walk-chained, chained-walk, walk-astray, walk-miscounted, astray-walk, miscounted-walk}
 use Rattle.view.specs.declared.Ruled.{Ruled}
 use Rattle.view.specs.declared.Ruled.the-variants.{Pass, Fail}
 use Rattle.view.specs.Disk.{View, used, formed, chainOf, owned, Used, Owns, Valid}
-use Rattle.view.specs.Counting.{slot-in, owned-by, by-owned}
+use Rattle.view.specs.Lemmas.Counting.{slot-in, owned-by, by-owned}
 use Rattle.view.specs.Rules.{orFail, badSystem, malformed, hasNameOf, repeated, walkOf, broken, sharing, stray, rules}
 use Rattle.view.specs.Broken.{Rule, system, legal, single, linked, apart, owner, turn, Breaks, Due}
 

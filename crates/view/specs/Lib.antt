@@ -1,9 +1,5 @@
 pub mod Disk
-pub mod Kept
-pub mod Counting
 pub mod Rules
 pub mod Broken
 pub mod Exactly
-pub mod Head
-pub mod Remove
-pub mod Put
+pub mod Lemmas

@@ -7,8 +7,9 @@ use native.Mathlib.Omega.{arith}
 use borrow.Author.Needs.{needs}
 use lib.ListN.{length, take, length-set, replicate, length-replicate}
 use lib.Seq.{take-all}
-use Rattle.laws.specs.Splice.{splice, splice-none, splice-turn}
-use Rattle.laws.specs.Padded.{getD-zeros}
+use Rattle.laws.specs.Splice.{splice}
+use Rattle.laws.specs.Lemmas.Splice.{splice-none, splice-turn}
+use Rattle.laws.specs.Lemmas.Padded.{getD-zeros}
 use Rattle.blocks.proofs.clear.Statement.{statement}
 use Rattle.blocks.proofs.clear.Tie as tie
 

@@ -2,7 +2,7 @@
 -- The part that was lent comes back as what `copy_run` made of it, by `copy-back`. Assumes nothing.
 use native.Mathlib.Omega.{arith}
 use borrow.Author.Needs.{needs}
-use Rattle.laws.specs.Splice.{copy-back}
+use Rattle.laws.specs.Lemmas.Splice.{copy-back}
 use Rattle.blocks.proofs.copy_part.Statement.{statement}
 use Rattle.blocks.proofs.copy_part.Tie as tie
 

@@ -5,7 +5,8 @@ use Prim.Native.Nat.{_-_, _≤_}
 use native.Mathlib.Omega.{arith}
 use borrow.Author.Needs.{needs}
 use lib.ListN.{length, take, length-set}
-use Rattle.laws.specs.Splice.{splice, splice-none, splice-turn, splice-done}
+use Rattle.laws.specs.Splice.{splice}
+use Rattle.laws.specs.Lemmas.Splice.{splice-none, splice-turn, splice-done}
 use Rattle.blocks.proofs.copy_run.Statement.{statement}
 use Rattle.blocks.proofs.copy_run.Tie as tie
 

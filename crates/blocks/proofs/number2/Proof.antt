@@ -3,7 +3,7 @@
 use Prim.Native.Nat.{_+_}
 use borrow.Author.Needs.{needs}
 use Rattle.laws.specs.Reader.{bytes}
-use Rattle.blocks.specs.Numbers.{number-one, number-next}
+use Rattle.blocks.specs.Lemmas.Numbers.{number-one, number-next}
 use Rattle.blocks.proofs.number2.Statement.{statement}
 use Rattle.blocks.proofs.number2.Tie as tie
 

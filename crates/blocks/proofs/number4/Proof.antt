@@ -2,7 +2,7 @@
 -- One law over the width, `number-next`. Assumes nothing.
 use borrow.Author.Needs.{needs}
 use Rattle.laws.specs.Reader.{bytes}
-use Rattle.blocks.specs.Numbers.{number-next}
+use Rattle.blocks.specs.Lemmas.Numbers.{number-next}
 use Rattle.blocks.proofs.number4.Statement.{statement}
 use Rattle.blocks.proofs.number4.Tie as tie
 

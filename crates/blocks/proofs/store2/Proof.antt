@@ -4,7 +4,8 @@ use native.Mathlib.Omega.{arith}
 use borrow.Author.Needs.{needs}
 use lib.ListN.{length-set}
 use Rattle.laws.specs.Splice.{splice}
-use Rattle.blocks.specs.Numbers.{digits, store-next}
+use Rattle.blocks.specs.Numbers.{digits}
+use Rattle.blocks.specs.Lemmas.Numbers.{store-next}
 use Rattle.blocks.proofs.store2.Statement.{statement}
 use Rattle.blocks.proofs.store2.Tie as tie
 

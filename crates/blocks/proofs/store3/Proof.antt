@@ -5,7 +5,7 @@ use Prim.Native.Nat.{_%_}
 use native.Mathlib.Omega.{arith}
 use borrow.Author.Needs.{needs}
 use lib.ListN.{length-set}
-use Rattle.blocks.specs.Numbers.{store-next}
+use Rattle.blocks.specs.Lemmas.Numbers.{store-next}
 use Rattle.blocks.proofs.store3.Statement.{statement}
 use Rattle.blocks.proofs.store3.Tie as tie
 

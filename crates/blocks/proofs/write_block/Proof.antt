@@ -8,7 +8,7 @@ use borrow.Author.Needs.{needs}
 use lib.ListN.{length}
 use lib.Seq.{take-all}
 use Rattle.laws.specs.Splice.{part}
-use Rattle.laws.specs.Padded.{splice-padded}
+use Rattle.laws.specs.Lemmas.Padded.{splice-padded}
 use Rattle.blocks.proofs.write_block.Statement.{statement}
 use Rattle.blocks.proofs.write_block.Tie as tie
 

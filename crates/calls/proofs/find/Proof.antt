@@ -3,7 +3,7 @@
 use denote.Ref.{now}
 use borrow.Author.Needs.{needs}
 use Rattle.calls.specs.Answers.{call-refused, findCall}
-use Rattle.calls.specs.Done.{done-right, done-rules, find-done}
+use Rattle.calls.specs.Lemmas.Done.{done-right, done-rules, find-done}
 use Rattle.calls.proofs.find.Statement.{statement}
 use Rattle.calls.proofs.find.Tie as tie
 

@@ -6,7 +6,7 @@ use denote.Ref.{now}
 use borrow.Author.Needs.{needs}
 use borrow.Author.Tests.{not-true, not-false}
 use Rattle.names.specs.Names.{legalName}
-use Rattle.calls.specs.Finding.{judge-illegal, judge-found, judge-none}
+use Rattle.calls.specs.Lemmas.Finding.{judge-illegal, judge-found, judge-none}
 use Rattle.calls.proofs.judge_name.Statement.{statement}
 use Rattle.calls.proofs.judge_name.Tie as tie
 

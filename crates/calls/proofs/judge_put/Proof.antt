@@ -6,7 +6,7 @@ use denote.Ref.{now}
 use borrow.Author.Needs.{needs}
 use borrow.Author.Tests.{not-true, not-false}
 use Rattle.names.specs.Names.{legalName, legalType}
-use Rattle.calls.specs.Putting.{put-name, put-type, put-empty, put-taken, put-full, put-room}
+use Rattle.calls.specs.Lemmas.Putting.{put-name, put-type, put-empty, put-taken, put-full, put-room}
 use Rattle.calls.proofs.judge_put.Statement.{statement}
 use Rattle.calls.proofs.judge_put.Tie as tie
 

@@ -3,7 +3,7 @@
 use Prim.Native.Nat.{_+_, _-_, _/_}
 use native.Mathlib.Omega.{arith}
 use borrow.Author.Needs.{needs}
-use Rattle.calls.specs.Putting.{room-none, room-long, room-some}
+use Rattle.calls.specs.Lemmas.Putting.{room-none, room-long, room-some}
 use Rattle.calls.proofs.judge_room.Statement.{statement}
 use Rattle.calls.proofs.judge_room.Tie as tie
 

@@ -9,8 +9,8 @@ use borrow.Author.Needs.{needs}
 use borrow.Author.Tests.{not-true, not-false}
 use Rattle.laws.specs.Padded.{padded}
 use Rattle.names.specs.Names.{nameOf}
-use Rattle.calls.specs.Slots.{file-above, file-empty}
-use Rattle.calls.specs.Listing.{lists-none, lists-file, area-lent}
+use Rattle.calls.specs.Lemmas.Slots.{file-above, file-empty}
+use Rattle.calls.specs.Lemmas.Listing.{lists-none, lists-file, area-lent}
 use Rattle.calls.proofs.list_slot.Statement.{statement}
 use Rattle.calls.proofs.list_slot.Tie as tie
 

@@ -10,8 +10,8 @@ use Rattle.laws.specs.Splice.{splice}
 use Rattle.laws.specs.Reader.{bytes}
 use Rattle.view.specs.Disk.{used}
 use Rattle.image.specs.Image.{viewOf}
-use Rattle.calls.specs.Slots.{slotFile, file-above, file-empty, file-used}
-use Rattle.calls.specs.Paging.{pages-none, pages-above, pages-file, size-some, content-size, slot-chained, page-bytes}
+use Rattle.calls.specs.Lemmas.Slots.{slotFile, file-above, file-empty, file-used}
+use Rattle.calls.specs.Lemmas.Paging.{pages-none, pages-above, pages-file, size-some, content-size, slot-chained, page-bytes}
 use Rattle.calls.proofs.page_slot.Statement.{statement}
 use Rattle.calls.proofs.page_slot.Tie as tie
 

@@ -3,7 +3,7 @@
 use denote.Ref.{now}
 use borrow.Author.Needs.{needs}
 use Rattle.calls.specs.Answers.{call-refused, removeCall}
-use Rattle.calls.specs.Done.{done-right, done-rules, remove-needs, remove-refused, remove-granted}
+use Rattle.calls.specs.Lemmas.Done.{done-right, done-rules, remove-needs, remove-refused, remove-granted}
 use Rattle.calls.proofs.remove.Statement.{statement}
 use Rattle.calls.proofs.remove.Tie as tie
 

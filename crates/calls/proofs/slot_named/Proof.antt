@@ -3,7 +3,7 @@
 use native.Mathlib.Omega.{arith}
 use denote.Ref.{now}
 use borrow.Author.Needs.{needs}
-use Rattle.calls.specs.Finding.{found-slot}
+use Rattle.calls.specs.Lemmas.Finding.{found-slot}
 use Rattle.calls.proofs.slot_named.Statement.{statement}
 use Rattle.calls.proofs.slot_named.Tie as tie
 

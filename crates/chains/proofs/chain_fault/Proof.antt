@@ -8,24 +8,25 @@ use native.Mathlib.Nat.{sub-zero}
 use native.Mathlib.Omega.{arith}
 use borrow.Author.Needs.{needs}
 use borrow.Author.Tests.{not-true, not-false}
-use Rattle.laws.specs.Truth.{true-both, false-both}
+use Rattle.laws.specs.Lemmas.Truth.{true-both, false-both}
 use Rattle.laws.specs.Reader.{bytes}
-use Rattle.laws.specs.Scan.{lowest, lowest-end, lowest-stop, lowest-on}
+use Rattle.laws.specs.Scan.{lowest}
+use Rattle.laws.specs.Lemmas.Scan.{lowest-end, lowest-stop, lowest-on}
 use Rattle.laws.specs.declared.Lowest.the-variants.{At}
 use Rattle.layout.specs.declared.Layout.{Layout}
 use Rattle.layout.specs.Right.{LayoutRight}
 use Rattle.blocks.specs.Blocks.{linksFor}
-use Rattle.map.specs.Map.{mapAt, isLink, chain, Chained, Walk, Whole, Bad, Cut, walk, isWhole, faultOf, marked}
-use Rattle.map.specs.Chains.{chain-data}
-use Rattle.map.specs.Marks.{Marks, marks-none, mark-last, mark-next}
-use Rattle.map.specs.Walks.{link-data, walk-chained, walk-bad, walk-whole, walk-over, walk-cut, walk-on}
+use Rattle.map.specs.Map.{mapAt, isLink, chain, Chained, Walk, Whole, Bad, Cut, walk, isWhole, faultOf, marked, Marks}
+use Rattle.map.specs.Lemmas.Chains.{chain-data}
+use Rattle.map.specs.Lemmas.Marks.{marks-none, mark-last, mark-next}
+use Rattle.map.specs.Lemmas.Walks.{link-data, walk-chained, walk-bad, walk-whole, walk-over, walk-cut, walk-on}
 use Rattle.view.specs.declared.Ruled.the-variants.{Pass, Fail}
 use Rattle.view.specs.Disk.{View, used, owned}
 use Rattle.laws.specs.Refusals.{refusalAt}
 use Rattle.view.specs.Rules.{walkOf, broken, orFail}
 use Rattle.image.specs.Image.{viewOf}
 use Rattle.chains.specs.Passes.{Followed}
-use Rattle.chains.specs.Tally.{empty-marks, chain-marks}
+use Rattle.chains.specs.Lemmas.Tally.{empty-marks, chain-marks}
 use Rattle.chains.proofs.chain_fault.Statement.{statement}
 use Rattle.chains.proofs.chain_fault.Tie as tie
 

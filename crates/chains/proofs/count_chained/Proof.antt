@@ -10,7 +10,7 @@ use lib.ListN.{length}
 use Rattle.laws.specs.Reader.{bytes}
 use Rattle.view.specs.Disk.{used, owned}
 use Rattle.image.specs.Image.{viewOf}
-use Rattle.chains.specs.Tally.{owned-empty, owned-used, links-few}
+use Rattle.chains.specs.Lemmas.Tally.{owned-empty, owned-used, links-few}
 use Rattle.chains.proofs.count_chained.Statement.{statement}
 use Rattle.chains.proofs.count_chained.Tie as tie
 

@@ -10,7 +10,8 @@ use lib.Dec.{eqb}
 use borrow.Author.Needs.{needs}
 use borrow.Author.Tests.{eq-eqb, ne-eqb}
 use Rattle.laws.specs.Reader.{bytes}
-use Rattle.laws.specs.Scan.{count, count-end, count-stop, count-on}
+use Rattle.laws.specs.Scan.{count}
+use Rattle.laws.specs.Lemmas.Scan.{count-end, count-stop, count-on}
 use Rattle.map.specs.Map.{mapAt, freeCount}
 use Rattle.chains.proofs.count_free.Statement.{statement}
 use Rattle.chains.proofs.count_free.Tie as tie

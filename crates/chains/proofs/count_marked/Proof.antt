@@ -8,7 +8,8 @@ use Prim.Native.Nat.{ℕ, _+_, _-_, _≤_}
 use native.Mathlib.Omega.{arith}
 use borrow.Author.Needs.{needs}
 use lib.ListN.{getD}
-use Rattle.laws.specs.Scan.{count, count-end, count-stop, count-on, count-split}
+use Rattle.laws.specs.Scan.{count}
+use Rattle.laws.specs.Lemmas.Scan.{count-end, count-stop, count-on, count-split}
 use Rattle.chains.proofs.count_marked.Statement.{statement}
 use Rattle.chains.proofs.count_marked.Tie as tie
 

@@ -9,20 +9,21 @@ use native.Mathlib.Omega.{arith}
 use borrow.Author.Needs.{needs}
 use borrow.Author.Tests.{not-true, not-false}
 use Rattle.laws.specs.Reader.{bytes}
-use Rattle.laws.specs.Scan.{lowest, lowest-end, lowest-stop, lowest-on}
+use Rattle.laws.specs.Scan.{lowest}
+use Rattle.laws.specs.Lemmas.Scan.{lowest-end, lowest-stop, lowest-on}
 use Rattle.laws.specs.declared.Lowest.the-variants.{Nowhere}
 use Rattle.laws.specs.Lists.{meets}
 use Rattle.laws.specs.Member.{In}
 use Rattle.layout.specs.declared.Layout.{Layout}
 use Rattle.layout.specs.Right.{LayoutRight}
 use Rattle.blocks.specs.Blocks.{linksFor}
-use Rattle.map.specs.Map.{chain, Chained, touched, marked}
-use Rattle.map.specs.Chains.{chain-data}
-use Rattle.map.specs.Marks.{Marks, marks-none, touched-meets}
+use Rattle.map.specs.Map.{chain, Chained, touched, marked, Marks}
+use Rattle.map.specs.Lemmas.Chains.{chain-data}
+use Rattle.map.specs.Lemmas.Marks.{marks-none, touched-meets}
 use Rattle.view.specs.Disk.{View, used, chainOf, owned}
 use Rattle.view.specs.Rules.{broken, sharing}
 use Rattle.image.specs.Image.{viewOf}
-use Rattle.chains.specs.Tally.{empty-marks, chain-marks, slot-chained}
+use Rattle.chains.specs.Lemmas.Tally.{empty-marks, chain-marks, slot-chained}
 use Rattle.chains.proofs.share_fault.Statement.{statement}
 use Rattle.chains.proofs.share_fault.Tie as tie
 

@@ -4,7 +4,7 @@ use mathlib.Core.Path.{sym, _∙_}
 use borrow.Author.Needs.{needs}
 use Rattle.laws.specs.Reader.{bytes}
 use Rattle.image.specs.Image.{viewOf}
-use Rattle.chains.specs.Tally.{tally-apart}
+use Rattle.chains.specs.Lemmas.Tally.{tally-apart}
 use Rattle.chains.proofs.shared_slot.Statement.{statement}
 use Rattle.chains.proofs.shared_slot.Tie as tie
 

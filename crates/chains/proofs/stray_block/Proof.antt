@@ -7,7 +7,7 @@ use borrow.Author.Needs.{needs}
 use Rattle.laws.specs.Reader.{bytes}
 use Rattle.map.specs.Map.{mapAt, freeCount}
 use Rattle.image.specs.Image.{viewOf}
-use Rattle.chains.specs.Tally.{free-most, tally-all}
+use Rattle.chains.specs.Lemmas.Tally.{free-most, tally-all}
 use Rattle.chains.proofs.stray_block.Statement.{statement}
 use Rattle.chains.proofs.stray_block.Tie as tie
 

@@ -5,7 +5,8 @@ use Prim.Native.Nat.{_-_}
 use native.Mathlib.Omega.{arith}
 use borrow.Author.Needs.{needs}
 use Rattle.laws.specs.Reader.{bytes}
-use Rattle.laws.specs.Scan.{lowest, lowest-end, lowest-stop, lowest-on}
+use Rattle.laws.specs.Scan.{lowest}
+use Rattle.laws.specs.Lemmas.Scan.{lowest-end, lowest-stop, lowest-on}
 use Rattle.view.specs.Rules.{stray}
 use Rattle.image.specs.Image.{viewOf}
 use Rattle.chains.proofs.stray_fault.Statement.{statement}

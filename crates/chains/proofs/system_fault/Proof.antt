@@ -9,7 +9,8 @@ use lib.Dec.{eqb}
 use borrow.Author.Needs.{needs}
 use borrow.Author.Tests.{eq-eqb, ne-eqb}
 use Rattle.laws.specs.Reader.{bytes}
-use Rattle.laws.specs.Scan.{lowest, lowest-end, lowest-stop, lowest-on}
+use Rattle.laws.specs.Scan.{lowest}
+use Rattle.laws.specs.Lemmas.Scan.{lowest-end, lowest-stop, lowest-on}
 use Rattle.map.specs.Map.{mapAt}
 use Rattle.view.specs.Rules.{badSystem}
 use Rattle.chains.proofs.system_fault.Statement.{statement}

@@ -8,17 +8,18 @@ use borrow.Author.Needs.{needs}
 use lib.ListN.{length, take, drop, getD}
 use lib.Seq.{length-take-le}
 use Rattle.laws.specs.Reader.{bytes}
-use Rattle.laws.specs.Member.{In, in-take}
+use Rattle.laws.specs.Member.{In}
+use Rattle.laws.specs.Lemmas.Member.{in-take}
 use Rattle.layout.specs.declared.Layout.{Layout}
 use Rattle.layout.specs.Layouts.{slotOffset}
 use Rattle.layout.specs.Right.{LayoutRight}
 use Rattle.blocks.specs.Blocks.{blocksFor, writeBlocks}
 use Rattle.map.specs.Map.{mapAt, freeBlocks, linkBlocks}
-use Rattle.map.specs.Free.{in-free}
-use Rattle.map.specs.Linking.{first-there}
+use Rattle.map.specs.Lemmas.Free.{in-free}
+use Rattle.map.specs.Lemmas.Linking.{first-there}
 use Rattle.image.specs.Image.{setEntry, fillBlocks, chosen}
 use Rattle.changes.specs.Changes.{entryWith, putArea, Puttable}
-use Rattle.changes.specs.Lent.{count-fits, lent-all}
+use Rattle.changes.specs.Lemmas.Lent.{count-fits, lent-all}
 use Rattle.changes.proofs.put_slot.Statement.{statement}
 use Rattle.changes.proofs.put_slot.Tie as tie
 

@@ -12,10 +12,10 @@ use Rattle.layout.specs.declared.Layout.{Layout}
 use Rattle.layout.specs.Layouts.{slotOffset}
 use Rattle.blocks.specs.Blocks.{linksFor}
 use Rattle.map.specs.Map.{mapAt, chain, Chained, freeAll}
-use Rattle.map.specs.Chains.{chain-data}
+use Rattle.map.specs.Lemmas.Chains.{chain-data}
 use Rattle.view.specs.Disk.{entryChain}
 use Rattle.image.specs.Image.{viewOf, eraseEntry, removeImage}
-use Rattle.changes.specs.Lent.{count-fits, lent-all}
+use Rattle.changes.specs.Lemmas.Lent.{count-fits, lent-all}
 use Rattle.changes.proofs.remove_slot.Statement.{statement}
 use Rattle.changes.proofs.remove_slot.Tie as tie
 

@@ -8,9 +8,11 @@ use native.Mathlib.Omega.{arith}
 use borrow.Author.Needs.{needs}
 use lib.ListN.{length, take, drop, getD, drop-of-length-le}
 use lib.Seq.{drop-cons, drop-drop}
-use Rattle.laws.specs.Splice.{splice, length-splice, lent-back, length-lent}
-use Rattle.laws.specs.Padded.{padded, length-padded}
-use Rattle.laws.specs.Clip.{part-clip}
+use Rattle.laws.specs.Splice.{splice}
+use Rattle.laws.specs.Lemmas.Splice.{length-splice, lent-back, length-lent}
+use Rattle.laws.specs.Padded.{padded}
+use Rattle.laws.specs.Lemmas.Padded.{length-padded}
+use Rattle.laws.specs.Lemmas.Clip.{part-clip}
 use Rattle.blocks.specs.Blocks.{writeBlocks}
 use Rattle.changes.proofs.write_blocks.Statement.{statement}
 use Rattle.changes.proofs.write_blocks.Tie as tie

@@ -7,8 +7,10 @@ use native.Mathlib.Omega.{arith}
 use borrow.Author.Needs.{needs}
 use lib.ListN.{length, set, length-set}
 use lib.Seq.{take-all}
-use Rattle.laws.specs.Splice.{splice, part, splice-append}
-use Rattle.blocks.specs.Numbers.{digits, length-digits}
+use Rattle.laws.specs.Splice.{splice, part}
+use Rattle.laws.specs.Lemmas.Splice.{splice-append}
+use Rattle.blocks.specs.Numbers.{digits}
+use Rattle.blocks.specs.Lemmas.Numbers.{length-digits}
 use Rattle.image.specs.Image.{setEntry}
 use Rattle.changes.specs.Changes.{entryWith}
 use Rattle.changes.proofs.write_entry.Statement.{statement}

@@ -3,7 +3,7 @@
 use denote.Ref.{now}
 use borrow.Author.Needs.{needs}
 use Rattle.laws.specs.Reader.{bytes}
-use Rattle.disk.specs.Steps.{made-right, first-held, directory-held, as-pass, as-fail}
+use Rattle.disk.specs.Lemmas.Steps.{made-right, first-held, directory-held, as-pass, as-fail}
 use Rattle.disk.proofs.check_as.Statement.{statement}
 use Rattle.disk.proofs.check_as.Tie as tie
 

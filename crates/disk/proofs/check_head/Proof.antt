@@ -2,7 +2,7 @@
 -- By the two lengths. Assumes nothing.
 use mathlib.Core.Path.{sym, _∙_}
 use borrow.Author.Needs.{needs}
-use Rattle.disk.specs.Steps.{start-short, start-low, start-high, start-none}
+use Rattle.disk.specs.Lemmas.Steps.{start-short, start-low, start-high, start-none}
 use Rattle.disk.proofs.check_head.Statement.{statement}
 use Rattle.disk.proofs.check_head.Tie as tie
 

@@ -8,7 +8,7 @@ use Rattle.layout.specs.declared.Kind.the-variants.{S900, S1000}
 use Rattle.layout.specs.declared.Layout.{Layout}
 use Rattle.layout.specs.Layouts.{layoutOf}
 use Rattle.rules.specs.Check.{hasIdentity}
-use Rattle.disk.specs.Steps.{directory-held, kinds-900, kinds-1000, kinds-neither}
+use Rattle.disk.specs.Lemmas.Steps.{directory-held, kinds-900, kinds-1000, kinds-neither}
 use Rattle.disk.proofs.check_kinds.Statement.{statement}
 use Rattle.disk.proofs.check_kinds.Tie as tie
 

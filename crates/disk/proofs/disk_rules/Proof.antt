@@ -1,7 +1,7 @@
 -- `disk::disk_rules` meets its contract: system values, then slots, then names, then chains.
 -- Each pass's answer decides the cascade's next step. Assumes nothing.
 use borrow.Author.Needs.{needs}
-use Rattle.disk.specs.Steps.{rules-system, rules-form, rules-name, rules-chains}
+use Rattle.disk.specs.Lemmas.Steps.{rules-system, rules-form, rules-name, rules-chains}
 use Rattle.disk.proofs.disk_rules.Statement.{statement}
 use Rattle.disk.proofs.disk_rules.Tie as tie
 

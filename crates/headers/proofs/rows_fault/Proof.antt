@@ -5,7 +5,7 @@ use Prim.Native.Nat.{_-_, _≤_}
 use native.Mathlib.Omega.{arith}
 use lib.ListN.{length}
 use borrow.Author.Needs.{needs}
-use Rattle.rows.specs.Arms.{RestOf, rows-stop, rows-on, rows-clean}
+use Rattle.rows.specs.Lemmas.Arms.{RestOf, rows-stop, rows-on, rows-clean}
 use Rattle.headers.proofs.rows_fault.Statement.{statement}
 use Rattle.headers.proofs.rows_fault.Tie as tie
 

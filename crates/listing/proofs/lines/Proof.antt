@@ -4,7 +4,7 @@ use native.Mathlib.Omega.{arith}
 use borrow.Author.Needs.{needs}
 use denote.Ref.{now}
 use Rattle.listing.specs.Lines.{lines-refused, lines-accepted, accepted-directory}
-use Rattle.listing.specs.Puts.{puts-none, puts-then, puts-fills, length-puts}
+use Rattle.listing.specs.Lemmas.Puts.{puts-none, puts-then, puts-fills, length-puts}
 use Rattle.listing.proofs.lines.Statement.{statement}
 use Rattle.listing.proofs.lines.Tie as tie
 

@@ -8,7 +8,8 @@ use lib.ListN.{length, take, getD}
 use lib.Seq.{take-all, set-out}
 use borrow.Author.Needs.{needs}
 use denote.Ref.{now}
-use Rattle.laws.specs.Splice.{splice, splice-none, splice-turn, length-splice}
+use Rattle.laws.specs.Splice.{splice}
+use Rattle.laws.specs.Lemmas.Splice.{splice-none, splice-turn, length-splice}
 use Rattle.listing.proofs.put.Statement.{statement}
 use Rattle.listing.proofs.put.Tie as tie
 

@@ -2,7 +2,7 @@
 -- By joining what the calls put. Assumes nothing.
 use native.Mathlib.Omega.{arith}
 use borrow.Author.Needs.{needs}
-use Rattle.listing.specs.Puts.{puts-near, puts-then}
+use Rattle.listing.specs.Lemmas.Puts.{puts-near, puts-then}
 use Rattle.listing.proofs.put_checked.Statement.{statement}
 use Rattle.listing.proofs.put_checked.Tie as tie
 

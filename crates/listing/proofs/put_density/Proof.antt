@@ -2,7 +2,7 @@
 -- By the arm's test and what `put` ensures. Assumes nothing.
 use native.Mathlib.Omega.{arith}
 use borrow.Author.Needs.{needs}
-use Rattle.listing.specs.Puts.{puts-near}
+use Rattle.listing.specs.Lemmas.Puts.{puts-near}
 use Rattle.listing.proofs.put_density.Statement.{statement}
 use Rattle.listing.proofs.put_density.Tie as tie
 

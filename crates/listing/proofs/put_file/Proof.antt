@@ -2,7 +2,7 @@
 -- By joining what the calls put; a name has at most 12 letters. Assumes nothing.
 use native.Mathlib.Omega.{arith}
 use borrow.Author.Needs.{needs}
-use Rattle.listing.specs.Puts.{puts-near, puts-then}
+use Rattle.listing.specs.Lemmas.Puts.{puts-near, puts-then}
 use Rattle.listing.proofs.put_file.Statement.{statement}
 use Rattle.listing.proofs.put_file.Tie as tie
 

@@ -2,7 +2,7 @@
 -- These are the fewest that hold the number, so they are its decimal digits. Assumes nothing.
 use native.Mathlib.Omega.{arith}
 use borrow.Author.Needs.{needs}
-use Rattle.listing.specs.Puts.{puts-near, puts-then, decimal-short, digits-decimal}
+use Rattle.listing.specs.Lemmas.Puts.{puts-near, puts-then, decimal-short, digits-decimal}
 use Rattle.listing.proofs.put_number.Statement.{statement}
 use Rattle.listing.proofs.put_number.Tie as tie
 

@@ -1,7 +1,7 @@
 -- `listing::put_refused` meets its contract: the number, then the place.
 -- By joining what the calls put. Assumes nothing.
 use borrow.Author.Needs.{needs}
-use Rattle.listing.specs.Puts.{puts-then}
+use Rattle.listing.specs.Lemmas.Puts.{puts-then}
 use Rattle.listing.proofs.put_refused.Statement.{statement}
 use Rattle.listing.proofs.put_refused.Tie as tie
 

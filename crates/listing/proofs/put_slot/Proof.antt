@@ -6,7 +6,7 @@ use borrow.Author.Tests.{not-true, not-false}
 use denote.Ref.{now}
 use Rattle.listing.specs.Listing.{slotLine}
 use Rattle.listing.specs.Lines.{slot-empty, slot-used}
-use Rattle.listing.specs.Puts.{puts-none, puts-near, puts-then, decimal-short}
+use Rattle.listing.specs.Lemmas.Puts.{puts-none, puts-near, puts-then, decimal-short}
 use Rattle.listing.proofs.put_slot.Statement.{statement}
 use Rattle.listing.proofs.put_slot.Tie as tie
 

@@ -8,7 +8,8 @@ use borrow.Author.Needs.{needs}
 use Rattle.laws.specs.Reader.{bytes}
 use Rattle.listing.specs.Listing.{slotLines}
 use Rattle.listing.specs.Lines.{slotAnswer}
-use Rattle.listing.specs.Puts.{Puts, puts-none, puts-near, puts-then}
+use Rattle.listing.specs.Puts.{Puts}
+use Rattle.listing.specs.Lemmas.Puts.{puts-none, puts-near, puts-then}
 use Rattle.listing.proofs.put_slots.Statement.{statement}
 use Rattle.listing.proofs.put_slots.Tie as tie
 

@@ -6,7 +6,8 @@ use native.Mathlib.Omega.{arith}
 use borrow.Author.Needs.{needs}
 use lib.ListN.{length, take, length-set}
 use lib.Seq.{take-all}
-use Rattle.laws.specs.Splice.{splice, splice-none, splice-turn}
+use Rattle.laws.specs.Splice.{splice}
+use Rattle.laws.specs.Lemmas.Splice.{splice-none, splice-turn}
 use Rattle.locate.proofs.copy_blocks.Statement.{statement}
 use Rattle.locate.proofs.copy_blocks.Tie as tie
 

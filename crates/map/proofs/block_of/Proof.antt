@@ -3,7 +3,7 @@
 use native.Mathlib.Omega.{arith}
 use borrow.Author.Needs.{needs}
 use lib.ListN.{getD}
-use Rattle.map.specs.Linking.{nth-in}
+use Rattle.map.specs.Lemmas.Linking.{nth-in}
 use Rattle.map.proofs.block_of.Statement.{statement}
 use Rattle.map.proofs.block_of.Tie as tie
 

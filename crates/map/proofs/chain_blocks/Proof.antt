@@ -7,9 +7,9 @@ use borrow.Author.Needs.{needs}
 use lib.ListN.{getD}
 use Rattle.laws.specs.Reader.{bytes}
 use Rattle.map.specs.Map.{mapAt, Data, chain}
-use Rattle.map.specs.Chains.{chain-short, nth-first, nth-data, nth-next}
-use Rattle.map.specs.Marks.{chain-last, chain-turn}
-use Rattle.map.specs.Collect.{Collecting, collect-none, collect-one, collect-end}
+use Rattle.map.specs.Lemmas.Chains.{chain-short, nth-first, nth-data, nth-next}
+use Rattle.map.specs.Lemmas.Marks.{chain-last, chain-turn}
+use Rattle.map.specs.Lemmas.Collect.{Collecting, collect-none, collect-one, collect-end}
 use Rattle.map.proofs.chain_blocks.Statement.{statement}
 use Rattle.map.proofs.chain_blocks.Tie as tie
 

@@ -6,7 +6,7 @@ use native.Mathlib.Omega.{arith}
 use borrow.Author.Needs.{needs}
 use lib.ListN.{length, drop, getD}
 use Rattle.map.specs.Map.{setMap, freeAll}
-use Rattle.map.specs.Linking.{length-set-map, free-all-end, free-all-next}
+use Rattle.map.specs.Lemmas.Linking.{length-set-map, free-all-end, free-all-next}
 use Rattle.map.proofs.clear_blocks.Statement.{statement}
 use Rattle.map.proofs.clear_blocks.Tie as tie
 

@@ -9,7 +9,7 @@ use borrow.Author.Tests.{ltb-true, ltb-false}
 use lib.ListN.{take}
 use Rattle.laws.specs.Reader.{bytes}
 use Rattle.map.specs.Map.{mapAt, freeFrom, freeBlocks}
-use Rattle.map.specs.Collect.{Collecting, collect-none, collect-one, collect-end, wanted-stop, wanted-on, wanted-end, wanted-full}
+use Rattle.map.specs.Lemmas.Collect.{Collecting, collect-none, collect-one, collect-end, wanted-stop, wanted-on, wanted-end, wanted-full}
 use Rattle.map.proofs.free_blocks.Statement.{statement}
 use Rattle.map.proofs.free_blocks.Tie as tie
 

@@ -7,8 +7,8 @@ use borrow.Author.Needs.{needs}
 use lib.ListN.{getD}
 use Rattle.laws.specs.Reader.{bytes}
 use Rattle.map.specs.Map.{mapAt, Data, chain, marked}
-use Rattle.map.specs.Chains.{nth-first, nth-data, nth-next}
-use Rattle.map.specs.Marks.{mark-last, mark-next}
+use Rattle.map.specs.Lemmas.Chains.{nth-first, nth-data, nth-next}
+use Rattle.map.specs.Lemmas.Marks.{mark-last, mark-next}
 use Rattle.map.proofs.mark_chain.Statement.{statement}
 use Rattle.map.proofs.mark_chain.Tie as tie
 

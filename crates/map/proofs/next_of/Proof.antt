@@ -4,7 +4,7 @@ use mathlib.Core.Path.{sym, _∙_}
 use Prim.Native.Nat.{_+_}
 use native.Mathlib.Omega.{arith}
 use borrow.Author.Needs.{needs}
-use Rattle.map.specs.Linking.{first-there, first-none}
+use Rattle.map.specs.Lemmas.Linking.{first-there, first-none}
 use Rattle.map.proofs.next_of.Statement.{statement}
 use Rattle.map.proofs.next_of.Tie as tie
 

@@ -7,7 +7,7 @@ use borrow.Author.Needs.{needs}
 use lib.ListN.{getD}
 use Rattle.laws.specs.Reader.{bytes}
 use Rattle.map.specs.Map.{mapAt, Data, chain}
-use Rattle.map.specs.Chains.{nth-first, nth-data, nth-next}
+use Rattle.map.specs.Lemmas.Chains.{nth-first, nth-data, nth-next}
 use Rattle.map.proofs.nth_block.Statement.{statement}
 use Rattle.map.proofs.nth_block.Tie as tie
 

@@ -7,8 +7,8 @@ use borrow.Author.Needs.{needs}
 use lib.ListN.{getD}
 use Rattle.laws.specs.Reader.{bytes}
 use Rattle.map.specs.Map.{mapAt, Data, chain, touched}
-use Rattle.map.specs.Chains.{nth-first, nth-data, nth-next}
-use Rattle.map.specs.Marks.{touch-first, touch-last, touch-next}
+use Rattle.map.specs.Lemmas.Chains.{nth-first, nth-data, nth-next}
+use Rattle.map.specs.Lemmas.Marks.{touch-first, touch-last, touch-next}
 use Rattle.map.proofs.touches.Statement.{statement}
 use Rattle.map.proofs.touches.Tie as tie
 

@@ -6,7 +6,8 @@ use native.Mathlib.Omega.{arith}
 use lib.ListN.{take}
 use denote.Ref.{now}
 use borrow.Author.Needs.{needs}
-use Rattle.laws.specs.Splice.{splice, splice-none, splice-turn, splice-done}
+use Rattle.laws.specs.Splice.{splice}
+use Rattle.laws.specs.Lemmas.Splice.{splice-none, splice-turn, splice-done}
 use Rattle.names.specs.Names.{areaOf}
 use Rattle.names.specs.NameLaws.{length-area}
 use Rattle.names.proofs.area_of.Statement.{statement}

@@ -8,7 +8,8 @@ use lib.Seq.{getD-take}
 use denote.Ref.{now}
 use borrow.Author.Needs.{needs}
 use borrow.Author.Tests.{not-true, not-false}
-use Rattle.laws.specs.Lists.{allOf, all-of-end, all-of-stop, all-of-on}
+use Rattle.laws.specs.Lists.{allOf}
+use Rattle.laws.specs.Lemmas.Lists.{all-of-end, all-of-stop, all-of-on}
 use Rattle.names.specs.Names.{storedByte}
 use Rattle.names.specs.NameLaws.{length-front}
 use Rattle.names.proofs.is_front.Statement.{statement}

@@ -7,7 +7,8 @@ use lib.ListN.{length, drop}
 use denote.Ref.{now}
 use borrow.Author.Needs.{needs}
 use borrow.Author.Tests.{eq-eqb, ne-eqb, not-true, not-false}
-use Rattle.laws.specs.Lists.{allOf, all-of-end, all-of-stop, all-of-on}
+use Rattle.laws.specs.Lists.{allOf}
+use Rattle.laws.specs.Lemmas.Lists.{all-of-end, all-of-stop, all-of-on}
 use Rattle.names.specs.Names.{givenByte, legalName}
 use Rattle.names.proofs.is_name.Statement.{statement}
 use Rattle.names.proofs.is_name.Tie as tie

@@ -3,7 +3,7 @@
 use mathlib.Core.Path.{refl, sym}
 use native.Mathlib.Omega.{arith}
 use borrow.Author.Tests.{le-leb}
-use Rattle.laws.specs.Truth.{within-below}
+use Rattle.laws.specs.Lemmas.Truth.{within-below}
 use Rattle.names.proofs.is_within.Statement.{statement}
 use Rattle.names.proofs.is_within.Tie as tie
 

@@ -8,8 +8,9 @@ use lib.ListN.{length, take, getD}
 use lib.Seq.{take-all, getD-take}
 use denote.Ref.{now}
 use borrow.Author.Needs.{needs}
-use Rattle.laws.specs.Splice.{splice, splice-none, splice-turn}
-use Rattle.laws.specs.Padded.{splice-zeros}
+use Rattle.laws.specs.Splice.{splice}
+use Rattle.laws.specs.Lemmas.Splice.{splice-none, splice-turn}
+use Rattle.laws.specs.Lemmas.Padded.{splice-zeros}
 use Rattle.layout.specs.declared.Layout.{Layout}
 use Rattle.layout.specs.Right.{LayoutRight}
 use Rattle.names.specs.Names.{nameOf, toAscii}

@@ -4,7 +4,7 @@ use mathlib.Core.Path.{refl, sym}
 use native.Mathlib.Omega.{arith}
 use borrow.Author.Needs.{needs}
 use Rattle.names.specs.Akaii.{akaiiOf, akaii-other}
-use Rattle.laws.specs.Truth.{within-in, within-below, within-above}
+use Rattle.laws.specs.Lemmas.Truth.{within-in, within-below, within-above}
 use Rattle.names.proofs.to_akaii.Statement.{statement}
 use Rattle.names.proofs.to_akaii.Tie as tie
 

@@ -4,7 +4,7 @@ use mathlib.Core.Path.{_≡_, refl, sym}
 use native.Mathlib.Omega.{arith}
 use borrow.Author.Needs.{needs}
 use Rattle.names.specs.Akaii.{asciiOf, ascii-other}
-use Rattle.laws.specs.Truth.{within-in, within-above}
+use Rattle.laws.specs.Lemmas.Truth.{within-in, within-above}
 use Rattle.names.proofs.to_ascii.Statement.{statement}
 use Rattle.names.proofs.to_ascii.Tie as tie
 

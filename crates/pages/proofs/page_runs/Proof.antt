@@ -8,14 +8,17 @@ use lib.ListN.{length, take, drop, getD, length-drop}
 use lib.Seq.{take-all, take-append-le, drop-append-le, drop-append-add}
 use denote.Ref.{now}
 use borrow.Author.Needs.{needs}
-use Rattle.laws.specs.Splice.{splice, splice-none, splice-turns, part, length-part, length-splice, part-part}
-use Rattle.laws.specs.Reader.{bytes, length-tab, tab-part}
+use Rattle.laws.specs.Splice.{splice, part}
+use Rattle.laws.specs.Lemmas.Splice.{splice-none, splice-turns, length-part, length-splice, part-part}
+use Rattle.laws.specs.Reader.{bytes}
+use Rattle.laws.specs.Lemmas.Reader.{length-tab, tab-part}
 use Rattle.layout.specs.declared.Layout.{Layout}
 use Rattle.layout.specs.Layouts.{imageLength}
 use Rattle.layout.specs.Right.{LayoutRight}
-use Rattle.blocks.specs.Blocks.{readBlocks, blockAt, length-read}
+use Rattle.blocks.specs.Blocks.{readBlocks, blockAt}
+use Rattle.blocks.specs.Lemmas.Blocks.{length-read}
 use Rattle.map.specs.Map.{mapAt, Fits, Data, chain}
-use Rattle.map.specs.Chains.{length-chain, chain-short, nth-data, nth-next}
+use Rattle.map.specs.Lemmas.Chains.{length-chain, chain-short, nth-data, nth-next}
 use Rattle.pages.proofs.page_runs.Statement.{statement}
 use Rattle.pages.proofs.page_runs.Tie as tie
 

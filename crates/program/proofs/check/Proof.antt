@@ -2,7 +2,7 @@
 -- By the tests, in the order of the definition. Assumes nothing.
 use mathlib.Core.Path.{refl}
 use borrow.Author.Needs.{needs}
-use Rattle.program.specs.Arms.{program-short, program-none, program-many, program-length, program-answer}
+use Rattle.program.specs.Lemmas.Arms.{program-short, program-none, program-many, program-length, program-answer}
 use Rattle.program.proofs.check.Statement.{statement}
 use Rattle.program.proofs.check.Tie as tie
 

@@ -5,7 +5,7 @@ use Prim.Native.Nat.{_-_, _≤_}
 use native.Mathlib.Nat.{sub-zero}
 use native.Mathlib.Omega.{arith}
 use borrow.Author.Needs.{needs}
-use Rattle.program.specs.Arms.{RestOf, part-stop, part-on, parts-end}
+use Rattle.program.specs.Lemmas.Arms.{RestOf, part-stop, part-on, parts-end}
 use Rattle.program.proofs.parts_fault.Statement.{statement}
 use Rattle.program.proofs.parts_fault.Tie as tie
 

@@ -1,7 +1,7 @@
 -- `program::table_of` meets its contract: the program's table for part 0, the keygroup's for the others.
 -- By the test on the part. Assumes nothing.
 use borrow.Author.Needs.{needs}
-use Rattle.program.specs.Arms.{later-table}
+use Rattle.program.specs.Lemmas.Arms.{later-table}
 use Rattle.program.proofs.table_of.Statement.{statement}
 use Rattle.program.proofs.table_of.Tie as tie
 

@@ -1,7 +1,7 @@
 -- `rows::byte_fault` meets its contract: the byte's place where it isn't legal.
 -- A run of one number: by what was read of it and the test. Assumes nothing.
 use borrow.Author.Needs.{needs}
-use Rattle.rows.specs.Arms.{byte-stop, byte-clean}
+use Rattle.rows.specs.Lemmas.Arms.{byte-stop, byte-clean}
 use Rattle.rows.proofs.byte_fault.Statement.{statement}
 use Rattle.rows.proofs.byte_fault.Tie as tie
 

@@ -2,7 +2,7 @@
 -- By what was read of it and the test. Assumes nothing.
 use mathlib.Core.Bool.{true, false}
 use borrow.Author.Needs.{needs}
-use Rattle.rows.specs.Arms.{breaks-by}
+use Rattle.rows.specs.Lemmas.Arms.{breaks-by}
 use Rattle.rows.proofs.is_broken.Statement.{statement}
 use Rattle.rows.proofs.is_broken.Tie as tie
 

@@ -1,7 +1,7 @@
 -- `rows::is_legal` meets its contract: each arm is its rule's test.
 -- By the rule's cases, and the tests on the way. Assumes nothing.
 use borrow.Author.Needs.{needs}
-use Rattle.rows.specs.Arms.{from-below, from-above, within-low, within-high, off-low, off-high, one-first, one-second, one-third, at-most, past, akaii, ascii}
+use Rattle.rows.specs.Lemmas.Arms.{from-below, from-above, within-low, within-high, off-low, off-high, one-first, one-second, one-third, at-most, past, akaii, ascii}
 use Rattle.rows.proofs.is_legal.Statement.{statement}
 use Rattle.rows.proofs.is_legal.Tie as tie
 

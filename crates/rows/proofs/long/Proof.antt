@@ -3,8 +3,8 @@
 use denote.Ref.{now}
 use borrow.Author.Needs.{needs}
 use Rattle.laws.specs.Reader.{bytes}
-use Rattle.blocks.specs.Numbers.{number-next}
-use Rattle.rows.specs.Arms.{next-two}
+use Rattle.blocks.specs.Lemmas.Numbers.{number-next}
+use Rattle.rows.specs.Lemmas.Arms.{next-two}
 use Rattle.rows.proofs.long.Statement.{statement}
 use Rattle.rows.proofs.long.Tie as tie
 

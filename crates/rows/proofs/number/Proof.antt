@@ -2,8 +2,8 @@
 -- By the width's cases. Assumes nothing.
 use native.Mathlib.Omega.{arith}
 use borrow.Author.Needs.{needs}
-use Rattle.rows.specs.Arms.{read-by}
-use Rattle.blocks.specs.Numbers.{number-one}
+use Rattle.rows.specs.Lemmas.Arms.{read-by}
+use Rattle.blocks.specs.Lemmas.Numbers.{number-one}
 use Rattle.rows.proofs.number.Statement.{statement}
 use Rattle.rows.proofs.number.Tie as tie
 

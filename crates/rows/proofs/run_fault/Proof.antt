@@ -2,9 +2,9 @@
 -- By the laws of a search: the numbers below j are passed. Assumes nothing.
 use Prim.Native.Nat.{_-_}
 use borrow.Author.Needs.{needs}
-use Rattle.laws.specs.Search.{Searched, searched-none, searched-found, searched-more, searched-all}
+use Rattle.laws.specs.Lemmas.Search.{Searched, searched-none, searched-found, searched-more, searched-all}
 use Rattle.rows.specs.Rows.{breaks}
-use Rattle.rows.specs.Arms.{run-stop, run-clean}
+use Rattle.rows.specs.Lemmas.Arms.{run-stop, run-clean}
 use Rattle.rows.proofs.run_fault.Statement.{statement}
 use Rattle.rows.proofs.run_fault.Tie as tie
 

@@ -3,7 +3,7 @@
 use denote.Ref.{now}
 use borrow.Author.Needs.{needs}
 use Rattle.laws.specs.Reader.{bytes}
-use Rattle.blocks.specs.Numbers.{number-one, number-next}
+use Rattle.blocks.specs.Lemmas.Numbers.{number-one, number-next}
 use Rattle.rows.proofs.word.Statement.{statement}
 use Rattle.rows.proofs.word.Tie as tie
 

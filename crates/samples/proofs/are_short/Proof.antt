@@ -8,9 +8,9 @@ use borrow.Author.Needs.{needs}
 use lib.IntN.{pos}
 use lib.ListN.{getD}
 use Rattle.words.specs.Words.{holds}
-use Rattle.words.specs.Signed.{read-back}
+use Rattle.words.specs.Lemmas.Signed.{read-back}
 use Rattle.samples.specs.Samples.{isShort}
-use Rattle.samples.specs.Steps.{Passed, passed-none, passed-more, passed-not, passed-all}
+use Rattle.samples.specs.Lemmas.Steps.{Passed, passed-none, passed-more, passed-not, passed-all}
 use Rattle.samples.proofs.are_short.Statement.{statement}
 use Rattle.samples.proofs.are_short.Tie as tie
 

@@ -6,7 +6,7 @@ use native.Mathlib.Omega.{arith}
 use borrow.Author.Needs.{needs}
 use Rattle.laws.specs.Reader.{bytes}
 use Rattle.blocks.specs.Numbers.{Number}
-use Rattle.samples.specs.Steps.{count-inside}
+use Rattle.samples.specs.Lemmas.Steps.{count-inside}
 use Rattle.samples.proofs.count_in.Statement.{statement}
 use Rattle.samples.proofs.count_in.Tie as tie
 

@@ -1,7 +1,7 @@
 -- `samples::file_fault` meets its contract: the length of the file, its number of words and its rows are asked in this order.
 -- Each test is a step of `fileFault`. Assumes nothing.
 use borrow.Author.Needs.{needs}
-use Rattle.samples.specs.Steps.{file-short, header-length, file-head}
+use Rattle.samples.specs.Lemmas.Steps.{file-short, header-length, file-head}
 use Rattle.samples.proofs.file_fault.Statement.{statement}
 use Rattle.samples.proofs.file_fault.Tie as tie
 

@@ -11,7 +11,7 @@ use mir.Syntax.{w16}
 use mir.Facts.{toZ-ofZ}
 use Rattle.laws.specs.Reader.{bytes}
 use Rattle.blocks.specs.Numbers.{number}
-use Rattle.words.specs.Parts.{parts-map, Written, written-none, written-one, written-all}
+use Rattle.words.specs.Lemmas.Parts.{parts-map, Written, written-none, written-one, written-all}
 use Rattle.words.specs.Words.{wordOf}
 use Rattle.samples.specs.Samples.{unpacked1000}
 use Rattle.samples.proofs.fill1000.Statement.{statement}

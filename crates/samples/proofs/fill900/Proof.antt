@@ -2,7 +2,7 @@
 -- By `unpacked-halves`. Assumes nothing.
 use borrow.Author.Needs.{needs}
 use Rattle.laws.specs.Reader.{bytes}
-use Rattle.samples.specs.Data.{unpacked-halves}
+use Rattle.samples.specs.Lemmas.Data.{unpacked-halves}
 use Rattle.samples.proofs.fill900.Statement.{statement}
 use Rattle.samples.proofs.fill900.Tie as tie
 

@@ -9,9 +9,9 @@ use lib.Seq.{sets}
 use mir.Syntax.{w16}
 use mir.Facts.{toZ-ofZ}
 use Rattle.laws.specs.Reader.{bytes}
-use Rattle.words.specs.Parts.{parts-map, Written, written-none, written-one, written-all}
+use Rattle.words.specs.Lemmas.Parts.{parts-map, Written, written-none, written-one, written-all}
 use Rattle.words.specs.Words.{wordOf, secondBits}
-use Rattle.samples.specs.Data.{second-bits}
+use Rattle.samples.specs.Lemmas.Data.{second-bits}
 use Rattle.samples.proofs.fill_second.Statement.{statement}
 use Rattle.samples.proofs.fill_second.Tie as tie
 

@@ -1,6 +1,6 @@
 -- `samples::head_fault` meets its contract: a wrong number of words stands before the rules of the table.
 -- By the test. Assumes nothing.
-use Rattle.samples.specs.Steps.{head-right, head-wrong}
+use Rattle.samples.specs.Lemmas.Steps.{head-right, head-wrong}
 use borrow.Author.Needs.{needs}
 use Rattle.samples.proofs.head_fault.Statement.{statement}
 use Rattle.samples.proofs.head_fault.Tie as tie

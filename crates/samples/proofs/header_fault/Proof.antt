@@ -2,7 +2,7 @@
 -- Each test is a step of `headerFault`. Assumes nothing.
 use mathlib.Core.Path.{_∙_}
 use borrow.Author.Needs.{needs}
-use Rattle.samples.specs.Steps.{header-size, header-head}
+use Rattle.samples.specs.Lemmas.Steps.{header-size, header-head}
 use Rattle.samples.proofs.header_fault.Statement.{statement}
 use Rattle.samples.proofs.header_fault.Tie as tie
 

@@ -2,7 +2,7 @@
 -- The word is read from its bits. Assumes nothing.
 use mathlib.Core.Path.{refl}
 use borrow.Author.Needs.{needs}
-use Rattle.words.specs.Signed.{read-back}
+use Rattle.words.specs.Lemmas.Signed.{read-back}
 use Rattle.samples.proofs.high_byte.Statement.{statement}
 use Rattle.samples.proofs.high_byte.Tie as tie
 

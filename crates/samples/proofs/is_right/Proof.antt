@@ -1,7 +1,7 @@
 -- `samples::is_right` meets its contract: an odd number is never right, another is by the two sizes.
 -- By the test. Assumes nothing.
 use borrow.Author.Needs.{needs}
-use Rattle.samples.specs.Steps.{right-whole, right-odd}
+use Rattle.samples.specs.Lemmas.Steps.{right-whole, right-odd}
 use Rattle.samples.proofs.is_right.Statement.{statement}
 use Rattle.samples.proofs.is_right.Tie as tie
 

@@ -2,7 +2,7 @@
 -- The words are read from their bits. Assumes nothing.
 use mathlib.Core.Path.{refl}
 use borrow.Author.Needs.{needs}
-use Rattle.words.specs.Signed.{read-back}
+use Rattle.words.specs.Lemmas.Signed.{read-back}
 use Rattle.samples.proofs.low_byte.Statement.{statement}
 use Rattle.samples.proofs.low_byte.Tie as tie
 

@@ -6,9 +6,9 @@ use Prim.Native.Nat.{_-_}
 use borrow.Author.Needs.{needs}
 use lib.IntN.{pos}
 use lib.ListN.{getD}
-use Rattle.laws.specs.Search.{Searched, searched-none, searched-found, searched-more, searched-all}
+use Rattle.laws.specs.Lemmas.Search.{Searched, searched-none, searched-found, searched-more, searched-all}
 use Rattle.words.specs.Words.{holds}
-use Rattle.words.specs.Signed.{read-back}
+use Rattle.words.specs.Lemmas.Signed.{read-back}
 use Rattle.samples.specs.Samples.{isOutside}
 use Rattle.samples.proofs.lowest_outside.Statement.{statement}
 use Rattle.samples.proofs.lowest_outside.Tie as tie

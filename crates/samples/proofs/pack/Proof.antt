@@ -4,8 +4,9 @@ use mathlib.Core.Path.{sym, ap, _∙_}
 use native.Mathlib.Omega.{arith}
 use borrow.Author.Needs.{needs}
 use lib.ListN.{length}
-use Rattle.laws.specs.Splice.{part, length-splice}
-use Rattle.samples.specs.Steps.{pack-refused, pack-outside, Ready, ready-header, ready-rest, pack-short, pack-done}
+use Rattle.laws.specs.Splice.{part}
+use Rattle.laws.specs.Lemmas.Splice.{length-splice}
+use Rattle.samples.specs.Lemmas.Steps.{pack-refused, pack-outside, Ready, ready-header, ready-rest, pack-short, pack-done}
 use Rattle.samples.specs.Rules.{header-accepted}
 use Rattle.samples.proofs.pack.Statement.{statement}
 use Rattle.samples.proofs.pack.Tie as tie

@@ -2,7 +2,7 @@
 -- By the sampler, and by whether all words are held. Assumes nothing.
 use mathlib.Core.Path.{refl}
 use borrow.Author.Needs.{needs}
-use Rattle.samples.specs.Steps.{range-short}
+use Rattle.samples.specs.Lemmas.Steps.{range-short}
 use Rattle.samples.proofs.range_fault.Statement.{statement}
 use Rattle.samples.proofs.range_fault.Tie as tie
 

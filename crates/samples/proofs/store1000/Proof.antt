@@ -7,9 +7,10 @@ use borrow.Author.Needs.{needs}
 use lib.IntN.{pos}
 use lib.ListN.{getD}
 use Rattle.laws.specs.Splice.{splice}
-use Rattle.blocks.specs.Numbers.{digits, length-digits}
-use Rattle.words.specs.Signed.{read-back}
-use Rattle.words.specs.Parts.{Written, written-none, written-more, written-all}
+use Rattle.blocks.specs.Numbers.{digits}
+use Rattle.blocks.specs.Lemmas.Numbers.{length-digits}
+use Rattle.words.specs.Lemmas.Signed.{read-back}
+use Rattle.words.specs.Lemmas.Parts.{Written, written-none, written-more, written-all}
 use Rattle.words.specs.Words.{bitsOf, bitsAt}
 use Rattle.samples.specs.Samples.{packed1000}
 use Rattle.samples.proofs.store1000.Statement.{statement}

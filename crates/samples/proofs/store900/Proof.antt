@@ -1,7 +1,7 @@
 -- `samples::store900` meets its contract: the pairs and the upper bytes after them are the data.
 -- By `packed-halves`. Assumes nothing.
 use borrow.Author.Needs.{needs}
-use Rattle.samples.specs.Data.{packed-halves}
+use Rattle.samples.specs.Lemmas.Data.{packed-halves}
 use Rattle.samples.proofs.store900.Statement.{statement}
 use Rattle.samples.proofs.store900.Tie as tie
 

@@ -7,8 +7,8 @@ use borrow.Author.Needs.{needs}
 use lib.IntN.{pos}
 use lib.ListN.{getD, length-set}
 use Rattle.laws.specs.Splice.{splice}
-use Rattle.words.specs.Signed.{read-back}
-use Rattle.words.specs.Parts.{Written, written-none, written-two, written-all}
+use Rattle.words.specs.Lemmas.Signed.{read-back}
+use Rattle.words.specs.Lemmas.Parts.{Written, written-none, written-two, written-all}
 use Rattle.words.specs.Words.{lowBits, highBits, pairAt}
 use Rattle.samples.proofs.store_pairs.Statement.{statement}
 use Rattle.samples.proofs.store_pairs.Tie as tie

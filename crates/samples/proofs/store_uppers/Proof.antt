@@ -8,8 +8,8 @@ use borrow.Author.Needs.{needs}
 use lib.IntN.{pos}
 use lib.ListN.{getD}
 use Rattle.laws.specs.Splice.{splice}
-use Rattle.words.specs.Signed.{read-back}
-use Rattle.words.specs.Parts.{parts-tab, Written, written-none, written-one, written-all}
+use Rattle.words.specs.Lemmas.Signed.{read-back}
+use Rattle.words.specs.Lemmas.Parts.{parts-tab, Written, written-none, written-one, written-all}
 use Rattle.words.specs.Words.{upperBits}
 use Rattle.samples.proofs.store_uppers.Statement.{statement}
 use Rattle.samples.proofs.store_uppers.Tie as tie

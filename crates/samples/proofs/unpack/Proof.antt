@@ -3,7 +3,7 @@
 use mathlib.Core.Path.{sym, _∙_}
 use native.Mathlib.Omega.{arith}
 use borrow.Author.Needs.{needs}
-use Rattle.samples.specs.Steps.{header-length, unpack-refused, Opened, opened-long, unpack-room, unpack-short, unpack-done}
+use Rattle.samples.specs.Lemmas.Steps.{header-length, unpack-refused, Opened, opened-long, unpack-room, unpack-short, unpack-done}
 use Rattle.samples.proofs.unpack.Statement.{statement}
 use Rattle.samples.proofs.unpack.Tie as tie
 

@@ -6,9 +6,10 @@ use Prim.Native.Nat.{ℕ}
 use borrow.Author.Needs.{needs}
 use denote.Ref.{now}
 use Rattle.record.specs.Record.{Outcome}
-use Rattle.laws.specs.Splice.{splice, splice-none}
+use Rattle.laws.specs.Splice.{splice}
+use Rattle.laws.specs.Lemmas.Splice.{splice-none}
 use Rattle.rules.specs.Check.{callOf}
-use Rattle.session.specs.Entries.{shown-as, list-reply}
+use Rattle.session.specs.Lemmas.Entries.{shown-as, list-reply}
 use Rattle.calls.specs.Answers.{listCall}
 use Rattle.calls.specs.Made.{ListMade}
 use Rattle.session.proofs.make_list.Statement.{statement}

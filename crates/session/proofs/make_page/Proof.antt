@@ -7,10 +7,11 @@ use native.Mathlib.Omega.{arith}
 use borrow.Author.Needs.{needs}
 use denote.Ref.{now}
 use Rattle.record.specs.Record.{Outcome}
-use Rattle.laws.specs.Splice.{splice, part, lent-back, length-lent}
+use Rattle.laws.specs.Splice.{splice, part}
+use Rattle.laws.specs.Lemmas.Splice.{lent-back, length-lent}
 use Rattle.rules.specs.Check.{callOf}
 use Rattle.session.specs.Script.{replyOf}
-use Rattle.session.specs.Entries.{shown-as}
+use Rattle.session.specs.Lemmas.Entries.{shown-as}
 use Rattle.calls.specs.Answers.{pageCall}
 use Rattle.calls.specs.Made.{PageMade}
 use Rattle.session.proofs.make_page.Statement.{statement}

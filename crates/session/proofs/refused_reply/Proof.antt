@@ -3,7 +3,7 @@
 use borrow.Author.Needs.{needs}
 use mathlib.Core.Path.{refl}
 use Rattle.record.specs.Record.{refusedBy}
-use Rattle.session.specs.Entries.{nameless}
+use Rattle.session.specs.Lemmas.Entries.{nameless}
 use Rattle.session.proofs.refused_reply.Statement.{statement}
 use Rattle.session.proofs.refused_reply.Tie as tie
 

@@ -7,13 +7,11 @@ use native.Mathlib.Omega.{arith}
 use borrow.Author.Needs.{needs}
 use lib.ListN.{length}
 use denote.Ref.{now}
-use Rattle.session.specs.Script.{runFrom}
-use Rattle.session.specs.Entries.{run-start, run-more, run-stop, run-end}
+use Rattle.session.specs.Script.{runFrom, afterRun}
+use Rattle.session.specs.Lemmas.Entries.{run-start, run-more, run-stop, run-end, part-fits}
 use Prim.Native.Nat.{min}
 use borrow.Author.Tests.{not-true, not-false}
-use Rattle.laws.specs.Splice.{length-splice, lent-back, length-lent}
-use Rattle.session.specs.Script.{afterRun}
-use Rattle.session.specs.Entries.{part-fits}
+use Rattle.laws.specs.Lemmas.Splice.{length-splice, lent-back, length-lent}
 use Rattle.session.proofs.run.Statement.{statement}
 use Rattle.session.proofs.run.Tie as tie
 

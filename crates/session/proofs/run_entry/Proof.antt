@@ -8,7 +8,7 @@ use Rattle.laws.specs.Splice.{part}
 use Rattle.session.specs.Script.{enteredBy}
 use denote.Ref.{now}
 use borrow.Author.Tests.{not-true, not-false}
-use Rattle.session.specs.Entries.{made-as, ended-as, fits-end, entry-list, entry-page, entry-none, entry-named}
+use Rattle.session.specs.Lemmas.Entries.{made-as, ended-as, fits-end, entry-list, entry-page, entry-none, entry-named}
 use Rattle.session.proofs.run_entry.Statement.{statement}
 use Rattle.session.proofs.run_entry.Tie as tie
 

@@ -6,7 +6,7 @@ use mathlib.Core.Option.{Option}
 use Rattle.record.specs.Record.{Call}
 use Rattle.session.specs.Script.{enteredBy}
 use denote.Ref.{now}
-use Rattle.session.specs.Entries.{made-as, ended-as, named-find, named-remove, named-put, named-none}
+use Rattle.session.specs.Lemmas.Entries.{made-as, ended-as, named-find, named-remove, named-put, named-none}
 use Rattle.session.proofs.run_named.Statement.{statement}
 use Rattle.session.proofs.run_named.Tie as tie
 

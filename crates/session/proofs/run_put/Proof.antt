@@ -4,7 +4,7 @@ use mathlib.Core.Path.{sym, _∙_}
 use borrow.Author.Needs.{needs}
 use denote.Ref.{now}
 use borrow.Author.Tests.{not-true, not-false}
-use Rattle.session.specs.Entries.{fits-end, made-as, ended-as, put-some, put-none}
+use Rattle.session.specs.Lemmas.Entries.{fits-end, made-as, ended-as, put-some, put-none}
 use Rattle.session.proofs.run_put.Statement.{statement}
 use Rattle.session.proofs.run_put.Tie as tie
 

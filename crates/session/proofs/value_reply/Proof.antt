@@ -2,7 +2,7 @@
 -- By `nameless`. Assumes nothing.
 use mathlib.Core.Path.{refl}
 use Rattle.record.specs.Record.{paged}
-use Rattle.session.specs.Entries.{nameless}
+use Rattle.session.specs.Lemmas.Entries.{nameless}
 use Rattle.session.proofs.value_reply.Statement.{statement}
 use Rattle.session.proofs.value_reply.Tie as tie
 

@@ -4,7 +4,7 @@ use native.Mathlib.Omega.{arith}
 use borrow.Author.Needs.{needs}
 use denote.Ref.{now}
 use lib.ListN.{length-set}
-use Rattle.session.specs.Entries.{reply-written}
+use Rattle.session.specs.Lemmas.Entries.{reply-written}
 use Rattle.session.proofs.write_reply.Statement.{statement}
 use Rattle.session.proofs.write_reply.Tie as tie
 

@@ -7,7 +7,8 @@ use Prim.Native.Nat.{ℕ, _+_, _-_, _≤_}
 use native.Mathlib.Omega.{arith}
 use borrow.Author.Needs.{needs}
 use denote.Ref.{now}
-use Rattle.laws.specs.Scan.{count, count-end, count-stop, count-on}
+use Rattle.laws.specs.Scan.{count}
+use Rattle.laws.specs.Lemmas.Scan.{count-end, count-stop, count-on}
 use Rattle.laws.specs.Reader.{bytes}
 use Rattle.layout.specs.declared.Layout.{Layout}
 use Rattle.view.specs.Disk.{used}

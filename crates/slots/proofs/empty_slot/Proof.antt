@@ -8,7 +8,7 @@ use borrow.Author.Needs.{needs}
 use Rattle.laws.specs.Reader.{bytes}
 use Rattle.view.specs.Disk.{used}
 use Rattle.image.specs.Image.{viewOf}
-use Rattle.laws.specs.Search.{Searched, searched-none, searched-found, searched-more, searched-all}
+use Rattle.laws.specs.Lemmas.Search.{Searched, searched-none, searched-found, searched-more, searched-all}
 use Rattle.slots.proofs.empty_slot.Statement.{statement}
 use Rattle.slots.proofs.empty_slot.Tie as tie
 

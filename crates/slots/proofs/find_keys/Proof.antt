@@ -5,7 +5,7 @@ use native.Mathlib.Omega.{arith}
 use borrow.Author.Needs.{needs}
 use Rattle.laws.specs.Reader.{bytes}
 use Rattle.slots.specs.Keys.{hasKeys}
-use Rattle.laws.specs.Search.{Searched, searched-none, searched-found, searched-more, searched-all}
+use Rattle.laws.specs.Lemmas.Search.{Searched, searched-none, searched-found, searched-more, searched-all}
 use Rattle.slots.proofs.find_keys.Statement.{statement}
 use Rattle.slots.proofs.find_keys.Tie as tie
 

@@ -8,7 +8,8 @@ use lib.Dec.{eqb}
 use borrow.Author.Needs.{needs}
 use borrow.Author.Tests.{eq-eqb, ne-eqb}
 use denote.Ref.{now}
-use Rattle.laws.specs.Scan.{all, all-end, all-stop, all-on}
+use Rattle.laws.specs.Scan.{all}
+use Rattle.laws.specs.Lemmas.Scan.{all-end, all-stop, all-on}
 use Rattle.laws.specs.Reader.{bytes}
 use Rattle.blocks.specs.Numbers.{number}
 use Rattle.rules.specs.Check.{hasIdentity}

@@ -7,14 +7,15 @@ use lib.Dec.{eqb}
 use borrow.Author.Needs.{needs}
 use borrow.Author.Tests.{eq-eqb, ne-eqb}
 use denote.Ref.{now}
-use Rattle.laws.specs.Truth.{false-both, true-both}
+use Rattle.laws.specs.Lemmas.Truth.{false-both, true-both}
 use Rattle.laws.specs.Reader.{bytes}
 use Rattle.layout.specs.declared.Layout.{Layout}
 use Rattle.layout.specs.Layouts.{slotOffset}
 use Rattle.blocks.specs.Numbers.{number}
 use Rattle.view.specs.Disk.{used}
 use Rattle.image.specs.Image.{entryAt}
-use Rattle.slots.specs.Keys.{hasKeys, both-when}
+use Rattle.slots.specs.Keys.{hasKeys}
+use Rattle.slots.specs.Lemmas.Keys.{both-when}
 use Rattle.slots.proofs.has_keys.Statement.{statement}
 use Rattle.slots.proofs.has_keys.Tie as tie
 

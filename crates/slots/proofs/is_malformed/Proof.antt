@@ -9,16 +9,18 @@ use lib.ListN.{length, take, drop}
 use borrow.Author.Needs.{needs}
 use borrow.Author.Tests.{lt-leb, le-leb, not-true, not-false}
 use denote.Ref.{now}
-use Rattle.laws.specs.Truth.{false-both, true-both}
-use Rattle.laws.specs.Splice.{part, length-lent}
-use Rattle.laws.specs.Reader.{bytes, tab, tab-part}
+use Rattle.laws.specs.Lemmas.Truth.{false-both, true-both}
+use Rattle.laws.specs.Splice.{part}
+use Rattle.laws.specs.Lemmas.Splice.{length-lent}
+use Rattle.laws.specs.Reader.{bytes, tab}
+use Rattle.laws.specs.Lemmas.Reader.{tab-part}
 use Rattle.layout.specs.declared.Layout.{Layout}
 use Rattle.layout.specs.Layouts.{slotOffset}
 use Rattle.names.specs.Names.{legalArea, legalType}
 use Rattle.view.specs.Disk.{View, used, formed}
 use Rattle.view.specs.Rules.{malformed}
 use Rattle.image.specs.Image.{entryAt, viewOf}
-use Rattle.slots.specs.Keys.{both-when}
+use Rattle.slots.specs.Lemmas.Keys.{both-when}
 use Rattle.slots.proofs.is_malformed.Statement.{statement}
 use Rattle.slots.proofs.is_malformed.Tie as tie
 

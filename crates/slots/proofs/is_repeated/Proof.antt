@@ -6,11 +6,12 @@ use native.Mathlib.Omega.{arith}
 use borrow.Author.Needs.{needs}
 use borrow.Author.Tests.{not-true, not-false}
 use denote.Ref.{now}
-use Rattle.laws.specs.Scan.{any, any-end, any-stop, any-on}
+use Rattle.laws.specs.Scan.{any}
+use Rattle.laws.specs.Lemmas.Scan.{any-end, any-stop, any-on}
 use Rattle.laws.specs.Reader.{bytes}
 use Rattle.view.specs.Rules.{hasNameOf, repeated}
 use Rattle.image.specs.Image.{viewOf}
-use Rattle.slots.specs.Keys.{keys-name}
+use Rattle.slots.specs.Lemmas.Keys.{keys-name}
 use Rattle.slots.proofs.is_repeated.Statement.{statement}
 use Rattle.slots.proofs.is_repeated.Tie as tie
 

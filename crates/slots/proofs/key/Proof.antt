@@ -4,7 +4,7 @@ use native.Mathlib.Omega.{arith}
 use borrow.Author.Needs.{needs}
 use denote.Ref.{now}
 use Rattle.laws.specs.Reader.{bytes}
-use Rattle.slots.specs.Keys.{number-split}
+use Rattle.slots.specs.Lemmas.Keys.{number-split}
 use Rattle.slots.proofs.key.Statement.{statement}
 use Rattle.slots.proofs.key.Tie as tie
 

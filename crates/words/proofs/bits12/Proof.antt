@@ -2,7 +2,7 @@
 -- One law by the sign, `raised-bits12`. Assumes nothing.
 use native.Mathlib.Omega.{arith}
 use borrow.Author.Needs.{needs}
-use Rattle.words.specs.Signed.{raised-bits12}
+use Rattle.words.specs.Lemmas.Signed.{raised-bits12}
 use Rattle.words.proofs.bits12.Statement.{statement}
 use Rattle.words.proofs.bits12.Tie as tie
 

@@ -1,7 +1,7 @@
 -- `words::bits16` meets its contract: a word plus 65,536 has the word's bits.
 -- One law by the sign, `raised-bits16`. Assumes nothing.
 use borrow.Author.Needs.{needs}
-use Rattle.words.specs.Signed.{raised-bits16}
+use Rattle.words.specs.Lemmas.Signed.{raised-bits16}
 use Rattle.words.proofs.bits16.Statement.{statement}
 use Rattle.words.proofs.bits16.Tie as tie
 

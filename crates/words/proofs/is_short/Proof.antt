@@ -1,7 +1,7 @@
 -- `words::is_short` meets its contract: a word plus 65,536 lies between 63,488 and 67,583 exactly where 12 bits hold the word.
 -- By the two tests, each by the sign. Assumes nothing.
 use borrow.Author.Needs.{needs}
-use Rattle.words.specs.Signed.{raised-low, raised-high}
+use Rattle.words.specs.Lemmas.Signed.{raised-low, raised-high}
 use Rattle.words.proofs.is_short.Statement.{statement}
 use Rattle.words.proofs.is_short.Tie as tie
 

@@ -3,7 +3,7 @@
 use borrow.Author.Needs.{needs}
 use mir.Syntax.{w16, w32}
 use mir.Facts.{toZ-ofZ}
-use Rattle.words.specs.Signed.{less, less16, less32}
+use Rattle.words.specs.Lemmas.Signed.{less, less16, less32}
 use Rattle.words.proofs.lowered.Statement.{statement}
 use Rattle.words.proofs.lowered.Tie as tie
 

@@ -4,7 +4,7 @@ use Prim.Native.Nat.{_<_}
 use native.Mathlib.Omega.{arith}
 use mir.Syntax.{w16}
 use mir.Facts.{toZ-ofZ}
-use Rattle.words.specs.Signed.{short, fits32, up, up-small, up-is, wide-sum, wide-back}
+use Rattle.words.specs.Lemmas.Signed.{short, fits32, up, up-small, up-is, wide-sum, wide-back}
 use Rattle.words.proofs.raised.Statement.{statement}
 use Rattle.words.proofs.raised.Tie as tie
 

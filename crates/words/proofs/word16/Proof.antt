@@ -6,7 +6,7 @@ use native.Mathlib.Omega.{arith}
 use borrow.Author.Needs.{needs}
 use mir.Syntax.{w16}
 use mir.Facts.{toZ-ofZ}
-use Rattle.words.specs.Signed.{lowered-word}
+use Rattle.words.specs.Lemmas.Signed.{lowered-word}
 use Rattle.words.proofs.word16.Statement.{statement}
 use Rattle.words.proofs.word16.Tie as tie
 

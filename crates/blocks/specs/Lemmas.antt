@@ -1,0 +1,3 @@
+-- Lemmas that only proofs use.
+pub mod Numbers
+pub mod Blocks

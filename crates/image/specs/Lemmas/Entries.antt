@@ -1,0 +1,68 @@
+-- An entry reads only its 22 bytes, is empty once erased, and reads back once written.
+-- Bytes inside and outside a write by the splice laws, numbers by the law over their width. Assumes nothing.
+use mathlib.Core.Path.{_≡_, refl, sym, ap, _∙_}
+use mathlib.Core.List.{List, _∷_, _++_}
+use Prim.Native.Nat.{ℕ, suc, _+_, _≤_, _<_}
+use native.Mathlib.Omega.{arith}
+use lib.ListN.{length, getD, replicate, List·getD-append, length-append}
+use lib.Seq.{getD-append-add}
+use Rattle.laws.specs.Lemmas.Splice.{getD-splice-in}
+use Rattle.laws.specs.Reader.{bytes, tab}
+use Rattle.laws.specs.Lemmas.Reader.{Agree, tab-is, tab-cong}
+use Rattle.blocks.specs.Numbers.{digits}
+use Rattle.blocks.specs.Lemmas.Numbers.{length-digits, number-cong, number-is}
+use Rattle.view.specs.Disk.{Entry}
+use Rattle.image.specs.Image.{entryAt, entryBytes, setEntry, eraseEntry}
+
+pub entry-cong : (b c : ℕ → ℕ) (at : ℕ) → Agree at 22 b c → entryAt c at ≡ entryAt b at
+unfolding entryAt
+entry-cong b c at h =
+    rw (
+      tab-cong b c at 16 (λ i p q. h i p (omega arith)),
+      h (at + 16) (omega arith) (omega arith),
+      number-cong 3 b c (at + 17) (λ i p q. h i (omega arith) (omega arith)),
+      number-cong 2 b c (at + 20) (λ i p q. h i (omega arith) (omega arith)),
+    ) refl
+
+pub erased-type : (img : List ℕ) (at : ℕ) → at + 22 ≤ length img → entryAt (bytes (eraseEntry img at)) at .type ≡ 0
+unfolding eraseEntry entryAt
+erased-type img at h = getD-splice-in img at (replicate 22 0) 16 (omega arith) (omega arith)
+
+module _ (e : Entry) (area : length (e .area) ≡ 16) where
+  pub length-entry : length (entryBytes e) ≡ 22
+  length-entry = simp (length-append, length-digits) (omega arith)
+
+  module _ (img : List ℕ) (at : ℕ) (fits : at + 22 ≤ length img) where
+    byte : (k : ℕ) → k < 22 → bytes (setEntry img at e) (at + k) ≡ getD (entryBytes e) k 0
+    unfolding setEntry
+    byte k h = getD-splice-in img at (entryBytes e) k (omega (arith, length-entry)) (omega (arith, length-entry))
+
+    name-byte : (k : ℕ) → k < length (e .area) → bytes (setEntry img at e) (at + k) ≡ getD (e .area) k 0
+    name-byte k h = byte k (omega arith) ∙ List·getD-append (e .area) _ 0 k h
+
+    tail-byte : (k : ℕ) → k < 6 → bytes (setEntry img at e) (at + (16 + k)) ≡ getD (e .type ∷ digits 3 (e .size) ++ digits 2 (e .start)) k 0
+    tail-byte k h = byte (16 + k) (omega arith) ∙ ap (λ (n : ℕ). getD (entryBytes e) (n + k) 0) (sym area) ∙ getD-append-add (e .area) _ k 0
+
+    size-byte : (k : ℕ) → k < 3 → bytes (setEntry img at e) (at + 17 + k) ≡ getD (digits 3 (e .size)) k 0
+    size-byte k h =
+        let z : at + 17 + k ≡ at + (16 + suc k) = omega arith in
+        ap (bytes (setEntry img at e)) z ∙ tail-byte (suc k) (omega arith) ∙ List·getD-append (digits 3 (e .size)) _ 0 k (omega (arith, length-digits 3 (e .size)))
+
+    start-byte : (k : ℕ) → k < 2 → bytes (setEntry img at e) (at + 20 + k) ≡ getD (digits 2 (e .start)) k 0
+    start-byte k h =
+        let z : at + 20 + k ≡ at + (16 + suc (3 + k)) = omega arith in
+        ap (bytes (setEntry img at e)) z
+        ∙ tail-byte (suc (3 + k)) (omega arith)
+        ∙ ap (λ (n : ℕ). getD (digits 3 (e .size) ++ digits 2 (e .start)) (n + k) 0) (sym (length-digits 3 (e .size)))
+        ∙ getD-append-add (digits 3 (e .size)) (digits 2 (e .start)) k 0
+
+    pub entry-same : e .size < 16777216 → e .start < 65536 → entryAt (bytes (setEntry img at e)) at ≡ e
+    unfolding entryAt
+    entry-same size start =
+        let n : tab (bytes (setEntry img at e)) at 16 ≡ e .area = ap (tab (bytes (setEntry img at e)) at) (sym area) ∙ tab-is (bytes (setEntry img at e)) at (e .area) name-byte in
+        rw (
+          n,
+          tail-byte 0 (omega arith),
+          number-is 3 (bytes (setEntry img at e)) (at + 17) (e .size) size size-byte,
+          number-is 2 (bytes (setEntry img at e)) (at + 20) (e .start) start start-byte,
+        ) refl

@@ -1,0 +1,3 @@
+-- Lemmas that only proofs use.
+pub mod Granted
+pub mod Update

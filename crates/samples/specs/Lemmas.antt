@@ -1,0 +1,4 @@
+-- Lemmas that only proofs use.
+pub mod Data
+pub mod Steps
+pub mod Back

@@ -1,0 +1,6 @@
+-- Lemmas that only proofs use.
+pub mod Kept
+pub mod Counting
+pub mod Head
+pub mod Remove
+pub mod Put
