@@ -19,21 +19,6 @@ Inv-loop target₀ at n i₀ target i = (i ≤ n) × (length target ≡ length t
 abbrev μ-loop : tie.MeasureT-loop
 μ-loop target₀ at n i₀ target i = n - i
 
-add-target : tie.Need-add-target Inv-loop μ-loop
-add-target c = search needs
-
-slice-write-target : tie.Need-slice-write-target Inv-loop μ-loop
-slice-write-target c = search needs
-
-add-i : tie.Need-add-i Inv-loop μ-loop
-add-i c = search needs
-
-loop-less : tie.Need-loop-less Inv-loop μ-loop
-loop-less c = search needs
-
-same-length : tie.Need-same-length Inv-loop μ-loop
-same-length c = search needs
-
 loop-holds : tie.Need-loop-holds Inv-loop μ-loop
 loop-holds c = (omega arith, refl, splice-none _ _)
 
@@ -61,10 +46,10 @@ clear-spec =
     Inv-loop
     μ-loop
     loop-holds
-    add-target
-    slice-write-target
-    add-i
-    loop-less
+    (λ c. search needs)
+    (λ c. search needs)
+    (λ c. search needs)
+    (λ c. search needs)
     loop-again
-    same-length
+    (λ c. search needs)
     returns)

@@ -16,21 +16,6 @@ Inv-loop target₀ source i₀ target i = (i ≤ length source) × (length targe
 abbrev μ-loop : tie.MeasureT-loop
 μ-loop target₀ source i₀ target i = length source - i
 
-shared-slice-read-target : tie.Need-shared-slice-read-target Inv-loop μ-loop
-shared-slice-read-target c = search needs
-
-slice-write-target : tie.Need-slice-write-target Inv-loop μ-loop
-slice-write-target c = search needs
-
-add-i : tie.Need-add-i Inv-loop μ-loop
-add-i c = search needs
-
-loop-less : tie.Need-loop-less Inv-loop μ-loop
-loop-less c = search needs
-
-same-length : tie.Need-same-length Inv-loop μ-loop
-same-length c = search needs
-
 loop-holds : tie.Need-loop-holds Inv-loop μ-loop
 loop-holds c = (omega arith, refl, splice-none _ 0)
 
@@ -52,10 +37,10 @@ copy-run-spec =
     Inv-loop
     μ-loop
     loop-holds
-    shared-slice-read-target
-    slice-write-target
-    add-i
-    loop-less
+    (λ c. search needs)
+    (λ c. search needs)
+    (λ c. search needs)
+    (λ c. search needs)
     loop-again
-    same-length
+    (λ c. search needs)
     returns)

@@ -6,24 +6,6 @@ use Rattle.blocks.specs.Lemmas.Numbers.{number-next}
 use Rattle.blocks.proofs.number3.Statement.{statement}
 use Rattle.blocks.proofs.number3.Tie as tie
 
-shared-slice-read-wide : tie.Need-shared-slice-read-wide
-shared-slice-read-wide c = search needs
-
-wide-requires : tie.Need-wide-requires
-wide-requires c κs = search needs
-
-add-number2 : tie.Need-add-number2
-add-number2 c = search needs
-
-number2-requires : tie.Need-number2-requires
-number2-requires c κs = search needs
-
-mul-result : tie.Need-mul-result
-mul-result c = search needs
-
-add-result : tie.Need-add-result
-add-result c = search needs
-
 returns : tie.Need-returns
 returns c =
     let a = c .before .before .before .before .args in
@@ -33,10 +15,10 @@ pub number3-spec : {M : Type 1} → statement M
 number3-spec =
     tie.close
     (tie.spec
-    shared-slice-read-wide
-    wide-requires
-    add-number2
-    number2-requires
-    mul-result
-    add-result
+    (λ c. search needs)
+    (λ c κs. search needs)
+    (λ c. search needs)
+    (λ c κs. search needs)
+    (λ c. search needs)
+    (λ c. search needs)
     returns)

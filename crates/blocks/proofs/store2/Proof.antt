@@ -9,21 +9,6 @@ use Rattle.blocks.specs.Lemmas.Numbers.{store-next}
 use Rattle.blocks.proofs.store2.Statement.{statement}
 use Rattle.blocks.proofs.store2.Tie as tie
 
-cast-target : tie.Need-cast-target
-cast-target c = search needs
-
-slice-write-target : tie.Need-slice-write-target
-slice-write-target c = search needs
-
-cast-target-2 : tie.Need-cast-target-2
-cast-target-2 c = search needs
-
-add-target : tie.Need-add-target
-add-target c = search needs
-
-same-length : tie.Need-same-length
-same-length c = search needs
-
 slice-write-target-2 : tie.Need-slice-write-target-2
 slice-write-target-2 c = simp length-set (omega arith)
 
@@ -35,10 +20,10 @@ pub store2-spec : {M : Type 1} → statement M
 store2-spec =
     tie.close
     (tie.spec
-    cast-target
-    slice-write-target
-    cast-target-2
-    add-target
+    (λ c. search needs)
+    (λ c. search needs)
+    (λ c. search needs)
+    (λ c. search needs)
     slice-write-target-2
-    same-length
+    (λ c. search needs)
     returns)

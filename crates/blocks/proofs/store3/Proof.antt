@@ -9,15 +9,6 @@ use Rattle.blocks.specs.Lemmas.Numbers.{store-next}
 use Rattle.blocks.proofs.store3.Statement.{statement}
 use Rattle.blocks.proofs.store3.Tie as tie
 
-cast-target : tie.Need-cast-target
-cast-target c = search needs
-
-slice-write-target : tie.Need-slice-write-target
-slice-write-target c = search needs
-
-add-store2 : tie.Need-add-store2
-add-store2 c = search needs
-
 store2-requires : tie.Need-store2-requires
 store2-requires c κs = simp length-set (omega arith)
 
@@ -34,4 +25,4 @@ returns c =
 pub store3-spec : {M : Type 1} → statement M
 store3-spec =
     tie.close
-    (tie.spec cast-target slice-write-target add-store2 store2-requires same-length returns)
+    (tie.spec (λ c. search needs) (λ c. search needs) (λ c. search needs) store2-requires same-length returns)

@@ -12,18 +12,6 @@ use Rattle.laws.specs.Lemmas.Padded.{splice-padded}
 use Rattle.blocks.proofs.write_block.Statement.{statement}
 use Rattle.blocks.proofs.write_block.Tie as tie
 
-copy-part-requires : tie.Need-copy-part-requires
-copy-part-requires c κs = search needs
-
-sub-clear : tie.Need-sub-clear
-sub-clear c = search needs
-
-clear-requires : tie.Need-clear-requires
-clear-requires c κs = search needs
-
-same-length : tie.Need-same-length
-same-length c = search needs
-
 -- the part that is all of a list
 part-all : (l : List ℕ) → part l 0 (length l) ≡ l
 unfolding part
@@ -37,4 +25,4 @@ returns c =
 
 pub write-block-spec : {M : Type 1} → statement M
 write-block-spec =
-    tie.close (tie.spec copy-part-requires sub-clear clear-requires same-length returns)
+    tie.close (tie.spec (λ c κs. search needs) (λ c. search needs) (λ c κs. search needs) (λ c. search needs) returns)

@@ -7,25 +7,10 @@ use Rattle.calls.specs.Lemmas.Done.{done-right, done-rules, find-done}
 use Rattle.calls.proofs.find.Statement.{statement}
 use Rattle.calls.proofs.find.Tie as tie
 
-check-requires : tie.Need-check-requires
-check-requires c κs = search needs
-
-enum-known-checked : tie.Need-enum-known-checked
-enum-known-checked c = search needs
-
-enum-told : tie.Need-enum-told
-enum-told c = search needs
-
-refusal-of-requires : tie.Need-refusal-of-requires
-refusal-of-requires c κs = search needs
-
 returns : tie.Need-returns
 returns c =
     let a = c .before .before .before .before .before .before .args in
     call-refused (now (a .image)) (findCall (now (a .name))) (c .before .before .before .check .ensures) (c .before .enum-told .given .1) (c .refusal-of .ensures)
-
-layout-of-requires : tie.Need-layout-of-requires
-layout-of-requires c κs = search needs
 
 judge-name-requires : tie.Need-judge-name-requires
 judge-name-requires c κs =
@@ -33,9 +18,6 @@ judge-name-requires c κs =
     let img = now (k .before .before .before .args .image) in
     let yes = c .before .before .checked .given .1 in
     (done-right img (k .check .ensures) yes (c .layout-of .ensures), done-rules img (k .check .ensures) yes (c .layout-of .ensures))
-
-found-by-requires : tie.Need-found-by-requires
-found-by-requires c κs = search needs
 
 returns-2 : tie.Need-returns-2
 returns-2 c =
@@ -48,12 +30,12 @@ pub find-spec : {M : Type 1} → statement M
 find-spec =
     tie.close
     (tie.spec
-    check-requires
-    enum-known-checked
-    enum-told
-    refusal-of-requires
+    (λ c κs. search needs)
+    (λ c. search needs)
+    (λ c. search needs)
+    (λ c κs. search needs)
     returns
-    layout-of-requires
+    (λ c κs. search needs)
     judge-name-requires
-    found-by-requires
+    (λ c κs. search needs)
     returns-2)

@@ -6,12 +6,6 @@ use Rattle.calls.specs.Answers.{foundBy}
 use Rattle.calls.proofs.found_by.Statement.{statement}
 use Rattle.calls.proofs.found_by.Tie as tie
 
-enum-known-judged : tie.Need-enum-known-judged
-enum-known-judged c = search needs
-
-enum-known-judged-2 : tie.Need-enum-known-judged-2
-enum-known-judged-2 c = search needs
-
 returns : tie.Need-returns
 returns c = ap foundBy (sym (c .before .judged .given .1))
 
@@ -19,4 +13,4 @@ returns-2 : tie.Need-returns-2
 returns-2 c = ap foundBy (sym (c .before .judged2 .given .1))
 
 pub found-by-spec : {M : Type 1} → statement M
-found-by-spec = tie.close (tie.spec enum-known-judged enum-known-judged-2 returns returns-2)
+found-by-spec = tie.close (tie.spec (λ c. search needs) (λ c. search needs) returns returns-2)

@@ -14,9 +14,6 @@ use Rattle.calls.proofs.judge_name.Tie as tie
 legal : (c : tie.Else1) → let a = c .before .before .before .before .args in legalName (a .layout) (now (a .name)) ≡ true
 legal c = sym (c .before .is-name .ensures) ∙ not-false _ (c .if1 .left)
 
-is-name-requires : tie.Need-is-name-requires
-is-name-requires c κs = search needs
-
 returns : tie.Need-returns
 returns c = judge-illegal _ _ _ (sym (c .before .is-name .ensures) ∙ not-true _ (c .if1 .taken))
 
@@ -24,12 +21,6 @@ slot-named-requires : tie.Need-slot-named-requires
 slot-named-requires c κs =
     let p = c .before .before .before .before in
     (p .pre .0, p .pre .1, legal c)
-
-enum-known-found : tie.Need-enum-known-found
-enum-known-found c = search needs
-
-enum-told : tie.Need-enum-told
-enum-told c = search needs
 
 returns-2 : tie.Need-returns-2
 returns-2 c = let d = c .before .before .before in judge-found _ _ _ (legal (d .before)) (d .slot-named .ensures) (c .before .found .given .1)
@@ -41,10 +32,10 @@ pub judge-name-spec : {M : Type 1} → statement M
 judge-name-spec =
     tie.close
     (tie.spec
-    is-name-requires
+    (λ c κs. search needs)
     returns
     slot-named-requires
-    enum-known-found
-    enum-told
+    (λ c. search needs)
+    (λ c. search needs)
     returns-2
     returns-3)

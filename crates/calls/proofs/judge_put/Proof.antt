@@ -17,15 +17,9 @@ legal c = sym (c .before .is-name .ensures) ∙ not-false _ (c .if1 .left)
 typed : (c : tie.Else2) → let a = c .before .before .before .before .before .before .args in legalType (a .layout) (a .letter) ≡ true
 typed c = sym (c .before .is-type .ensures) ∙ not-false _ (c .if2 .left)
 
-is-name-requires : tie.Need-is-name-requires
-is-name-requires c κs = search needs
-
 returns : tie.Need-returns
 returns c = λ content long. let p = c .before .before .before .before in
     put-name _ (p .pre .0) _ (p .pre .1) _ _ content long (sym (c .before .is-name .ensures) ∙ not-true _ (c .if1 .taken))
-
-is-type-requires : tie.Need-is-type-requires
-is-type-requires c κs = search needs
 
 returns-2 : tie.Need-returns-2
 returns-2 c = λ content long. let d = c .before .before in let p = d .before .before .before .before in
@@ -38,31 +32,13 @@ returns-3 c = λ content long. let d = c .before in let p = d .before .before .b
 slot-named-requires : tie.Need-slot-named-requires
 slot-named-requires c κs = let d = c .before in let p = d .before .before .before .before .before .before in (p .pre .0, p .pre .1, legal (d .before .before))
 
-enum-known-taken : tie.Need-enum-known-taken
-enum-known-taken c = search needs
-
 returns-4 : tie.Need-returns-4
 returns-4 c = λ content long. let s = c .before .before .before in let d = s .before .before in let p = d .before .before .before .before .before .before in
     put-taken _ (p .pre .0) _ (p .pre .1) _ _ content long (legal (d .before .before)) (typed d) (s .before .if3 .left) (s .slot-named .ensures) (c .before .taken .given .1)
 
-enum-told : tie.Need-enum-told
-enum-told c = search needs
-
-empty-slot-requires : tie.Need-empty-slot-requires
-empty-slot-requires c κs = search needs
-
-enum-known-empty : tie.Need-enum-known-empty
-enum-known-empty c = search needs
-
-enum-told-2 : tie.Need-enum-told-2
-enum-told-2 c = search needs
-
 returns-5 : tie.Need-returns-5
 returns-5 c = λ content long. let e = c .before .before in let s = e .before .before .before in let d = s .before .before in let p = d .before .before .before .before .before .before in
     put-full _ (p .pre .0) _ (p .pre .1) _ _ content long (legal (d .before .before)) (typed d) (s .before .if3 .left) (s .slot-named .ensures) (e .before .enum-told .given .1) (e .empty-slot .ensures) (c .enum-told2 .given .1)
-
-judge-room-requires : tie.Need-judge-room-requires
-judge-room-requires c κs = search needs
 
 returns-6 : tie.Need-returns-6
 returns-6 c = λ content long. let e = c .before .before .before .before in let s = e .before .before .before in let d = s .before .before in let p = d .before .before .before .before .before .before in
@@ -73,18 +49,18 @@ pub judge-put-spec : {M : Type 1} → statement M
 judge-put-spec =
     tie.close
     (tie.spec
-    is-name-requires
+    (λ c κs. search needs)
     returns
-    is-type-requires
+    (λ c κs. search needs)
     returns-2
     returns-3
     slot-named-requires
-    enum-known-taken
+    (λ c. search needs)
     returns-4
-    enum-told
-    empty-slot-requires
-    enum-known-empty
-    enum-told-2
+    (λ c. search needs)
+    (λ c κs. search needs)
+    (λ c. search needs)
+    (λ c. search needs)
     returns-5
-    judge-room-requires
+    (λ c κs. search needs)
     returns-6)

@@ -7,12 +7,6 @@ use Rattle.calls.specs.Lemmas.Putting.{room-none, room-long, room-some}
 use Rattle.calls.proofs.judge_room.Statement.{statement}
 use Rattle.calls.proofs.judge_room.Tie as tie
 
-sub-wanted : tie.Need-sub-wanted
-sub-wanted c = search needs
-
-add-wanted : tie.Need-add-wanted
-add-wanted c = search needs
-
 returns : tie.Need-returns
 returns c = let a = c .before .args in room-none (a .free) (a .size) (a .slot) ((a .size - 1) / 1024 + 1) (omega arith) (c .if1 .taken)
 
@@ -23,4 +17,4 @@ returns-3 : tie.Need-returns-3
 returns-3 c = let a = c .before .before .args in room-some (a .free) (a .size) (a .slot) ((a .size - 1) / 1024 + 1) (omega arith) (c .before .if1 .left) (c .if2 .left)
 
 pub judge-room-spec : {M : Type 1} → statement M
-judge-room-spec = tie.close (tie.spec sub-wanted add-wanted returns returns-2 returns-3)
+judge-room-spec = tie.close (tie.spec (λ c. search needs) (λ c. search needs) returns returns-2 returns-3)

@@ -8,28 +8,10 @@ use Rattle.calls.specs.Lemmas.Done.{done-right, done-rules, list-done}
 use Rattle.calls.proofs.list.Statement.{statement}
 use Rattle.calls.proofs.list.Tie as tie
 
-check-requires : tie.Need-check-requires
-check-requires c κs = search needs
-
-enum-known-checked : tie.Need-enum-known-checked
-enum-known-checked c = search needs
-
-enum-told : tie.Need-enum-told
-enum-told c = search needs
-
-refusal-of-requires : tie.Need-refusal-of-requires
-refusal-of-requires c κs = search needs
-
-unlisted-requires : tie.Need-unlisted-requires
-unlisted-requires c κs = search needs
-
 returns : tie.Need-returns
 returns c =
     let a = c .before .before .before .before .before .before .args in
     lists-refused (now (a .image)) (a .slot) (c .before .before .before .before .check .ensures) (c .before .before .enum-told .given .1) (c .before .refusal-of .ensures) (c .unlisted .ensures)
-
-layout-of-requires : tie.Need-layout-of-requires
-layout-of-requires c κs = search needs
 
 list-slot-requires : tie.Need-list-slot-requires
 list-slot-requires c κs =
@@ -49,12 +31,12 @@ pub list-spec : {M : Type 1} → statement M
 list-spec =
     tie.close
     (tie.spec
-    check-requires
-    enum-known-checked
-    enum-told
-    refusal-of-requires
-    unlisted-requires
+    (λ c κs. search needs)
+    (λ c. search needs)
+    (λ c. search needs)
+    (λ c κs. search needs)
+    (λ c κs. search needs)
     returns
-    layout-of-requires
+    (λ c κs. search needs)
     list-slot-requires
     returns-2)

@@ -8,25 +8,10 @@ use Rattle.calls.specs.Lemmas.Done.{done-right, done-rules, page-done}
 use Rattle.calls.proofs.page.Statement.{statement}
 use Rattle.calls.proofs.page.Tie as tie
 
-check-requires : tie.Need-check-requires
-check-requires c κs = search needs
-
-enum-known-checked : tie.Need-enum-known-checked
-enum-known-checked c = search needs
-
-enum-told : tie.Need-enum-told
-enum-told c = search needs
-
-refusal-of-requires : tie.Need-refusal-of-requires
-refusal-of-requires c κs = search needs
-
 returns : tie.Need-returns
 returns c =
     let a = c .before .before .before .before .before .before .args in
     call-refused (now (a .image)) (pageCall (a .slot) (a .offset) (now (a .out))) (c .before .before .before .check .ensures) (c .before .enum-told .given .1) (c .refusal-of .ensures)
-
-layout-of-requires : tie.Need-layout-of-requires
-layout-of-requires c κs = search needs
 
 page-slot-requires : tie.Need-page-slot-requires
 page-slot-requires c κs =
@@ -35,9 +20,6 @@ page-slot-requires c κs =
     let img = now (k .before .before .before .args .image) in
     let yes = y .before .before .checked .given .1 in
     (done-right img (k .check .ensures) yes (y .layout-of .ensures), done-rules img (k .check .ensures) yes (y .layout-of .ensures))
-
-same-length : tie.Need-same-length
-same-length c = search needs
 
 returns-2 : tie.Need-returns-2
 returns-2 c =
@@ -51,12 +33,12 @@ pub page-spec : {M : Type 1} → statement M
 page-spec =
     tie.close
     (tie.spec
-    check-requires
-    enum-known-checked
-    enum-told
-    refusal-of-requires
+    (λ c κs. search needs)
+    (λ c. search needs)
+    (λ c. search needs)
+    (λ c κs. search needs)
     returns
-    layout-of-requires
+    (λ c κs. search needs)
     page-slot-requires
-    same-length
+    (λ c. search needs)
     returns-2)

@@ -25,16 +25,10 @@ returns c =
     let a = c .before .before .before .args in
     pages-none (now (a .image)) _ (a .offset) _ (file-above (a .layout) (now (a .image)) (a .slot) (c .if1 .taken)) refl
 
-is-used-requires : tie.Need-is-used-requires
-is-used-requires c κs = search needs
-
 returns-2 : tie.Need-returns-2
 returns-2 c =
     let a = c .before .before .before .before .before .args in
     pages-none (now (a .image)) _ (a .offset) _ (file-empty (a .layout) (now (a .image)) (a .slot) (omega arith) (sym (c .before .is-used .ensures) ∙ not-true _ (c .if2 .taken))) refl
-
-size-of-requires : tie.Need-size-of-requires
-size-of-requires c κs = search needs
 
 returns-3 : tie.Need-returns-3
 returns-3 c =
@@ -44,12 +38,6 @@ returns-3 c =
     let u = here e in
     pages-above (now (a .image)) _ (a .offset) _ (slotFile (a .layout) (now (a .image)) (a .slot)) (c .before .size-of .result)
     (file-used (a .layout) (now (a .image)) (a .slot) (omega arith) u) (content-size (a .layout) (p .pre .0) (now (a .image)) (p .pre .1) (a .slot) (omega arith) u (c .before .size-of .ensures)) (omega arith) refl
-
-start-of-requires : tie.Need-start-of-requires
-start-of-requires c κs = search needs
-
-least-requires : tie.Need-least-requires
-least-requires c κs = search needs
 
 sub-links : tie.Need-sub-links
 sub-links c =
@@ -67,12 +55,6 @@ page-runs-requires c κs =
       (p .pre .0, p .pre .1 .size, slot-chained (a .layout) (p .pre .0) (now (a .image)) (p .pre .1) (a .slot) (omega arith) (here e) (c .before .before .before .before .size-of .ensures) (c .before .before .start-of .ensures)),
       (omega arith, omega arith),
     )
-
-add-end : tie.Need-add-end
-add-end c = search needs
-
-same-length : tie.Need-same-length
-same-length c = search needs
 
 returns-4 : tie.Need-returns-4
 returns-4 c =
@@ -96,14 +78,14 @@ page-slot-spec =
     tie.close
     (tie.spec
     returns
-    is-used-requires
+    (λ c κs. search needs)
     returns-2
-    size-of-requires
+    (λ c κs. search needs)
     returns-3
-    start-of-requires
-    least-requires
+    (λ c κs. search needs)
+    (λ c κs. search needs)
     sub-links
     page-runs-requires
-    add-end
-    same-length
+    (λ c. search needs)
+    (λ c. search needs)
     returns-4)

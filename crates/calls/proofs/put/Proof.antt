@@ -11,28 +11,10 @@ use Rattle.calls.specs.Lemmas.Done.{done-right, done-rules, done-free, p
 use Rattle.calls.proofs.put.Statement.{statement}
 use Rattle.calls.proofs.put.Tie as tie
 
-check-requires : tie.Need-check-requires
-check-requires c κs = search needs
-
-enum-known-checked : tie.Need-enum-known-checked
-enum-known-checked c = search needs
-
-enum-told : tie.Need-enum-told
-enum-told c = search needs
-
-refusal-of-requires : tie.Need-refusal-of-requires
-refusal-of-requires c κs = search needs
-
-same-length : tie.Need-same-length
-same-length c = search needs
-
 returns : tie.Need-returns
 returns c =
     let a = c .before .before .before .before .before .before .before .before .args in
     call-refused (now (a .image)) (putCall (now (a .name)) (a .letter) (now (a .content))) (c .before .before .before .check .ensures) (c .before .enum-told .given .1) (c .refusal-of .ensures)
-
-layout-of-requires : tie.Need-layout-of-requires
-layout-of-requires c κs = search needs
 
 judge-put-requires : tie.Need-judge-put-requires
 judge-put-requires c κs =
@@ -41,18 +23,6 @@ judge-put-requires c κs =
     let img = now (k .before .before .before .before .before .args .image) in
     let yes = y .before .before .checked .given .1 in
     (done-right img (k .check .ensures) yes (y .layout-of .ensures), done-rules img (k .check .ensures) yes (y .layout-of .ensures), done-free img (k .check .ensures) yes (y .layout-of .ensures))
-
-enum-known-judged : tie.Need-enum-known-judged
-enum-known-judged c = search needs
-
-enum-told-2 : tie.Need-enum-told-2
-enum-told-2 c = search needs
-
-found-by-requires : tie.Need-found-by-requires
-found-by-requires c κs = search needs
-
-same-length-2 : tie.Need-same-length-2
-same-length-2 c = search needs
 
 returns-2 : tie.Need-returns-2
 returns-2 c =
@@ -87,9 +57,6 @@ put-slot-requires c κs =
     let judged = j .judge-put .ensures (now (a .content)) refl in
     put-needs img (k .check .ensures) yes (y .layout-of .ensures) (now (a .name)) (a .letter) (now (a .content)) judged (c .before .before .before .judged .given .1)
 
-same-length-3 : tie.Need-same-length-3
-same-length-3 c = search needs
-
 returns-3 : tie.Need-returns-3
 returns-3 c =
     let j = c .before .before .before .before .before .before .before .before in
@@ -108,20 +75,20 @@ pub put-spec : {M : Type 1} → statement M
 put-spec =
     tie.close
     (tie.spec
-    check-requires
-    enum-known-checked
-    enum-told
-    refusal-of-requires
-    same-length
+    (λ c κs. search needs)
+    (λ c. search needs)
+    (λ c. search needs)
+    (λ c κs. search needs)
+    (λ c. search needs)
     returns
-    layout-of-requires
+    (λ c κs. search needs)
     judge-put-requires
-    enum-known-judged
-    enum-told-2
-    found-by-requires
-    same-length-2
+    (λ c. search needs)
+    (λ c. search needs)
+    (λ c κs. search needs)
+    (λ c. search needs)
     returns-2
     area-of-requires
     put-slot-requires
-    same-length-3
+    (λ c. search needs)
     returns-3)

@@ -7,28 +7,10 @@ use Rattle.calls.specs.Lemmas.Done.{done-right, done-rules, remove-needs
 use Rattle.calls.proofs.remove.Statement.{statement}
 use Rattle.calls.proofs.remove.Tie as tie
 
-check-requires : tie.Need-check-requires
-check-requires c κs = search needs
-
-enum-known-checked : tie.Need-enum-known-checked
-enum-known-checked c = search needs
-
-enum-told : tie.Need-enum-told
-enum-told c = search needs
-
-refusal-of-requires : tie.Need-refusal-of-requires
-refusal-of-requires c κs = search needs
-
-same-length : tie.Need-same-length
-same-length c = search needs
-
 returns : tie.Need-returns
 returns c =
     let a = c .before .before .before .before .before .before .before .args in
     call-refused (now (a .image)) (removeCall (now (a .name))) (c .before .before .before .check .ensures) (c .before .enum-told .given .1) (c .refusal-of .ensures)
-
-layout-of-requires : tie.Need-layout-of-requires
-layout-of-requires c κs = search needs
 
 judge-name-requires : tie.Need-judge-name-requires
 judge-name-requires c κs =
@@ -37,12 +19,6 @@ judge-name-requires c κs =
     let img = now (k .before .before .before .before .args .image) in
     let yes = y .before .before .checked .given .1 in
     (done-right img (k .check .ensures) yes (y .layout-of .ensures), done-rules img (k .check .ensures) yes (y .layout-of .ensures))
-
-enum-known-judged : tie.Need-enum-known-judged
-enum-known-judged c = search needs
-
-enum-known-judged-2 : tie.Need-enum-known-judged-2
-enum-known-judged-2 c = search needs
 
 remove-slot-requires : tie.Need-remove-slot-requires
 remove-slot-requires c κs =
@@ -54,9 +30,6 @@ remove-slot-requires c κs =
     let yes = y .before .before .checked .given .1 in
     remove-needs img (k .check .ensures) yes (y .layout-of .ensures) (now (a .name)) (j .judge-name .ensures) (c .before .before .judged2 .given .1)
 
-same-length-2 : tie.Need-same-length-2
-same-length-2 c = search needs
-
 returns-2 : tie.Need-returns-2
 returns-2 c =
     let j = c .before .before .before in
@@ -66,9 +39,6 @@ returns-2 c =
     let img = now (a .image) in
     let yes = y .before .before .checked .given .1 in
     remove-refused img (k .check .ensures) yes (y .layout-of .ensures) (now (a .name)) (j .judge-name .ensures) (c .before .judged .given .1)
-
-same-length-3 : tie.Need-same-length-3
-same-length-3 c = search needs
 
 returns-3 : tie.Need-returns-3
 returns-3 c =
@@ -85,18 +55,18 @@ pub remove-spec : {M : Type 1} → statement M
 remove-spec =
     tie.close
     (tie.spec
-    check-requires
-    enum-known-checked
-    enum-told
-    refusal-of-requires
-    same-length
+    (λ c κs. search needs)
+    (λ c. search needs)
+    (λ c. search needs)
+    (λ c κs. search needs)
+    (λ c. search needs)
     returns
-    layout-of-requires
+    (λ c κs. search needs)
     judge-name-requires
-    enum-known-judged
-    enum-known-judged-2
+    (λ c. search needs)
+    (λ c. search needs)
     remove-slot-requires
-    same-length-2
+    (λ c. search needs)
     returns-2
-    same-length-3
+    (λ c. search needs)
     returns-3)

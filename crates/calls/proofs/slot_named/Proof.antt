@@ -7,24 +7,6 @@ use Rattle.calls.specs.Lemmas.Finding.{found-slot}
 use Rattle.calls.proofs.slot_named.Statement.{statement}
 use Rattle.calls.proofs.slot_named.Tie as tie
 
-area-of-requires : tie.Need-area-of-requires
-area-of-requires c κs = search needs
-
-slice-aggregate-key : tie.Need-slice-aggregate-key
-slice-aggregate-key c = search needs
-
-key-requires : tie.Need-key-requires
-key-requires c κs = search needs
-
-slice-aggregate-key-2 : tie.Need-slice-aggregate-key-2
-slice-aggregate-key-2 c = search needs
-
-key-requires-2 : tie.Need-key-requires-2
-key-requires-2 c κs = search needs
-
-find-keys-requires : tie.Need-find-keys-requires
-find-keys-requires c κs = search needs
-
 returns : tie.Need-returns
 returns c =
     let k = c .before .before .before .before .before .before .before in
@@ -36,10 +18,10 @@ pub slot-named-spec : {M : Type 1} → statement M
 slot-named-spec =
     tie.close
     (tie.spec
-    area-of-requires
-    slice-aggregate-key
-    key-requires
-    slice-aggregate-key-2
-    key-requires-2
-    find-keys-requires
+    (λ c κs. search needs)
+    (λ c. search needs)
+    (λ c κs. search needs)
+    (λ c. search needs)
+    (λ c κs. search needs)
+    (λ c κs. search needs)
     returns)

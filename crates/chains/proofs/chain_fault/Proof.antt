@@ -80,33 +80,6 @@ slots-holds : tie.Need-slots-holds Inv-loop μ-loop Inv-slots μ-slots
 unfolding owned
 slots-holds c = (omega arith, rw (c .before .pre .2) (marks-none 1600), rw sub-zero)
 
-add-next : tie.Need-add-next Inv-loop μ-loop Inv-slots μ-slots
-add-next c = search needs
-
-is-used-requires : tie.Need-is-used-requires Inv-loop μ-loop Inv-slots μ-slots
-is-used-requires c κs = search needs
-
-slots-less : tie.Need-slots-less Inv-loop μ-loop Inv-slots μ-slots
-slots-less c = search needs
-
-links-of-requires : tie.Need-links-of-requires Inv-loop μ-loop Inv-slots μ-slots
-links-of-requires c κs = search needs
-
-start-of-requires : tie.Need-start-of-requires Inv-loop μ-loop Inv-slots μ-slots
-start-of-requires c κs = search needs
-
-is-link-requires : tie.Need-is-link-requires Inv-loop μ-loop Inv-slots μ-slots
-is-link-requires c κs = search needs
-
-slots-less-2 : tie.Need-slots-less-2 Inv-loop μ-loop Inv-slots μ-slots
-slots-less-2 c = search needs
-
-sub-left : tie.Need-sub-left Inv-loop μ-loop Inv-slots μ-slots
-sub-left c = search needs
-
-loop-less : tie.Need-loop-less Inv-loop μ-loop Inv-slots μ-slots
-loop-less c = search needs
-
 -- ---- the slots
 
 slots-again : tie.Need-slots-again Inv-loop μ-loop Inv-slots μ-slots
@@ -195,20 +168,20 @@ chain-fault-spec =
     Inv-slots
     μ-slots
     slots-holds
-    add-next
-    is-used-requires
-    slots-less
+    (λ c. search needs)
+    (λ c κs. search needs)
+    (λ c. search needs)
     slots-again
-    links-of-requires
-    start-of-requires
+    (λ c κs. search needs)
+    (λ c κs. search needs)
     loop-holds
-    is-link-requires
+    (λ c κs. search needs)
     element-write-marks
     map-at-requires
-    slots-less-2
+    (λ c. search needs)
     slots-again-2
-    sub-left
-    loop-less
+    (λ c. search needs)
+    (λ c. search needs)
     loop-again
     returns
     returns-2

@@ -16,12 +16,6 @@ use Rattle.chains.proofs.chain_rules.Tie as tie
 chain-fault-requires : tie.Need-chain-fault-requires
 chain-fault-requires c κs = let p = c .before .before .pre in (p .0, p .1, refl)
 
-enum-told : tie.Need-enum-told
-enum-told c = search needs
-
-enum-told-2 : tie.Need-enum-told-2
-enum-told-2 c = search needs
-
 returns : tie.Need-returns
 returns c =
     let a = c .before .before .before .before .before .args in
@@ -47,14 +41,8 @@ on-chains c =
 shared-slot-requires : tie.Need-shared-slot-requires
 shared-slot-requires c κs = let p = c .before .before .before .before .before .before .before .pre in (p .0, p .1, clean c, on-chains c)
 
-enum-known-shared : tie.Need-enum-known-shared
-enum-known-shared c = search needs
-
 returns-2 : tie.Need-returns-2
 returns-2 c = let d = c .before .before .before in chain-shared _ _ (clean (d .before)) (d .shared-slot .ensures) (c .before .shared .given .1)
-
-enum-told-3 : tie.Need-enum-told-3
-enum-told-3 c = search needs
 
 stray-block-requires : tie.Need-stray-block-requires
 stray-block-requires c κs =
@@ -62,17 +50,11 @@ stray-block-requires c κs =
     let p = m .before .before .before .before .before .before .before .pre in
     (p .0, p .1, clean m, on-chains m, m .before .before .before .before .chain-fault .ensures .marks-all (m .before .before .enum-told .given .1))
 
-enum-known-stray : tie.Need-enum-known-stray
-enum-known-stray c = search needs
-
 returns-3 : tie.Need-returns-3
 returns-3 c =
     let g = c .before .before .before in
     let d = g .before .before .before .before in
     chain-stray _ _ (clean (d .before)) (d .shared-slot .ensures) (g .before .before .enum-told3 .given .1) (g .stray-block .ensures) (c .before .stray .given .1)
-
-enum-told-4 : tie.Need-enum-told-4
-enum-told-4 c = search needs
 
 returns-4 : tie.Need-returns-4
 returns-4 c =
@@ -85,16 +67,16 @@ chain-rules-spec =
     tie.close
     (tie.spec
     chain-fault-requires
-    enum-told
-    enum-told-2
+    (λ c. search needs)
+    (λ c. search needs)
     returns
     count-marked-requires
     shared-slot-requires
-    enum-known-shared
+    (λ c. search needs)
     returns-2
-    enum-told-3
+    (λ c. search needs)
     stray-block-requires
-    enum-known-stray
+    (λ c. search needs)
     returns-3
-    enum-told-4
+    (λ c. search needs)
     returns-4)

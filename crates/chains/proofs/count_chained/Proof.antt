@@ -24,15 +24,6 @@ loop-holds : tie.Need-loop-holds Inv-loop μ-loop
 unfolding owned
 loop-holds c = (omega arith, refl, omega arith)
 
-add-next : tie.Need-add-next Inv-loop μ-loop
-add-next c = search needs
-
-is-used-requires : tie.Need-is-used-requires Inv-loop μ-loop
-is-used-requires c κs = search needs
-
-loop-less : tie.Need-loop-less Inv-loop μ-loop
-loop-less c = search needs
-
 loop-again : tie.Need-loop-again Inv-loop μ-loop
 loop-again c =
     let d = c .before .before in
@@ -40,9 +31,6 @@ loop-again c =
     let a = d .before .before .before .args in
     let e = sym (c .before .is-used .ensures) ∙ not-true _ (c .if1 .taken) in
     (omega (arith, d .loop-test .taken), i .1 ∙ sym (owned-empty (viewOf (a .layout) (bytes (a .head .now))) _ e), omega arith)
-
-links-of-requires : tie.Need-links-of-requires Inv-loop μ-loop
-links-of-requires c κs = search needs
 
 -- the slot in hand is used, and its chain short
 used-is : (c : tie.After-links-of Inv-loop μ-loop)
@@ -66,9 +54,6 @@ add-blocks c = omega (arith, sum-small c)
 add-blocks-2 : tie.Need-add-blocks-2 Inv-loop μ-loop
 add-blocks-2 c = omega (arith, sum-small c)
 
-loop-less-2 : tie.Need-loop-less-2 Inv-loop μ-loop
-loop-less-2 c = search needs
-
 loop-again-2 : tie.Need-loop-again-2 Inv-loop μ-loop
 loop-again-2 c =
     let l = c .before .before .before .before .loop in
@@ -91,13 +76,13 @@ count-chained-spec =
     Inv-loop
     μ-loop
     loop-holds
-    add-next
-    is-used-requires
-    loop-less
+    (λ c. search needs)
+    (λ c κs. search needs)
+    (λ c. search needs)
     loop-again
-    links-of-requires
+    (λ c κs. search needs)
     add-blocks
     add-blocks-2
-    loop-less-2
+    (λ c. search needs)
     loop-again-2
     returns)

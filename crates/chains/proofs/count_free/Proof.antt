@@ -25,21 +25,6 @@ Inv-loop head end free₀ block₀ free block = (free ≤ block) × (block ≤ e
 abbrev μ-loop : tie.MeasureT-loop
 μ-loop head end free₀ block₀ free block = end - block
 
-loop-holds : tie.Need-loop-holds Inv-loop μ-loop
-loop-holds c = search needs
-
-map-at-requires : tie.Need-map-at-requires Inv-loop μ-loop
-map-at-requires c κs = search needs
-
-add-free : tie.Need-add-free Inv-loop μ-loop
-add-free c = search needs
-
-add-block : tie.Need-add-block Inv-loop μ-loop
-add-block c = search needs
-
-loop-less : tie.Need-loop-less Inv-loop μ-loop
-loop-less c = search needs
-
 loop-again : tie.Need-loop-again Inv-loop μ-loop
 loop-again c =
     let d = c .before .before in
@@ -61,11 +46,11 @@ count-free-spec =
     (tie.spec
     Inv-loop
     μ-loop
-    loop-holds
-    map-at-requires
-    add-free
-    add-block
-    loop-less
+    (λ c. search needs)
+    (λ c κs. search needs)
+    (λ c. search needs)
+    (λ c. search needs)
+    (λ c. search needs)
     loop-again
     cast-result
     returns)

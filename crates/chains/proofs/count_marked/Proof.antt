@@ -22,20 +22,8 @@ Inv-loop marks first end marked₀ block₀ marked block = (marked ≤ block) ×
 abbrev μ-loop : tie.MeasureT-loop
 μ-loop marks first end marked₀ block₀ marked block = end - block
 
-loop-holds : tie.Need-loop-holds Inv-loop μ-loop
-loop-holds c = search needs
-
 element-copy-out-if1 : tie.Need-element-copy-out-if1 Inv-loop μ-loop
 element-copy-out-if1 c = omega (arith, c .loop-test .taken, c .before .before .pre .blocks-most)
-
-add-marked : tie.Need-add-marked Inv-loop μ-loop
-add-marked c = search needs
-
-add-block : tie.Need-add-block Inv-loop μ-loop
-add-block c = search needs
-
-loop-less : tie.Need-loop-less Inv-loop μ-loop
-loop-less c = search needs
 
 loop-again : tie.Need-loop-again Inv-loop μ-loop
 loop-again c =
@@ -58,11 +46,11 @@ count-marked-spec =
     (tie.spec
     Inv-loop
     μ-loop
-    loop-holds
+    (λ c. search needs)
     element-copy-out-if1
-    add-marked
-    add-block
-    loop-less
+    (λ c. search needs)
+    (λ c. search needs)
+    (λ c. search needs)
     loop-again
     cast-result
     returns)

@@ -7,12 +7,6 @@ use Rattle.view.specs.Rules.{stray}
 use Rattle.chains.proofs.is_stray.Statement.{statement}
 use Rattle.chains.proofs.is_stray.Tie as tie
 
-map-at-requires : tie.Need-map-at-requires
-map-at-requires c κs = search needs
-
-element-copy-out-result : tie.Need-element-copy-out-result
-element-copy-out-result c = search needs
-
 returns : tie.Need-returns
 unfolding stray
 returns c = rw (eq-eqb _ _ (sym (c .before .map-at .ensures) ∙ c .if1 .taken))
@@ -25,4 +19,4 @@ returns-2 c =
     rw (ne-eqb _ _ (λ e. c .before .if1 .left (d .map-at .ensures ∙ e)), p .2 .mark _ (p .1))
 
 pub is-stray-spec : {M : Type 1} → statement M
-is-stray-spec = tie.close (tie.spec map-at-requires returns element-copy-out-result returns-2)
+is-stray-spec = tie.close (tie.spec (λ c κs. search needs) returns (λ c. search needs) returns-2)

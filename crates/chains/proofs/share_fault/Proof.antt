@@ -68,15 +68,6 @@ loop-holds : tie.Need-loop-holds Inv-loop μ-loop
 unfolding owned
 loop-holds c = (search needs, rw (c .before .pre .3) (marks-none 1600), rw sub-zero)
 
-add-next : tie.Need-add-next Inv-loop μ-loop
-add-next c = search needs
-
-is-used-requires : tie.Need-is-used-requires Inv-loop μ-loop
-is-used-requires c κs = search needs
-
-loop-less : tie.Need-loop-less Inv-loop μ-loop
-loop-less c = search needs
-
 loop-again : tie.Need-loop-again Inv-loop μ-loop
 loop-again c =
     let d = c .before .before in
@@ -85,12 +76,6 @@ loop-again c =
     let v = viewOf (a .layout) (bytes (a .head .now)) in
     let e : used (v .entry (d .before .loop .next)) ≡ false = sym (c .before .is-used .ensures) ∙ not-true _ (c .if1 .taken) in
     (omega arith, empty-marks v _ e _ (i .1), i .2 ∙ lowest-on _ _ _ (d .loop-test .taken) (empty-apart v _ e _))
-
-links-of-requires : tie.Need-links-of-requires Inv-loop μ-loop
-links-of-requires c κs = search needs
-
-start-of-requires : tie.Need-start-of-requires Inv-loop μ-loop
-start-of-requires c κs = search needs
 
 -- the slot in hand
 walked : (c : tie.After-start-of Inv-loop μ-loop)
@@ -117,9 +102,6 @@ returns c =
     let d = c .before .before .before .before .before .before .before in
     sym (d .before .loop .inv .2 ∙ lowest-stop _ _ _ (d .loop-test .taken) (shared (c .before) ∙ c .if2 .taken))
 
-loop-less-2 : tie.Need-loop-less-2 Inv-loop μ-loop
-loop-less-2 c = search needs
-
 loop-again-2 : tie.Need-loop-again-2 Inv-loop μ-loop
 loop-again-2 c =
     let d = c .before .before in
@@ -140,15 +122,15 @@ share-fault-spec =
     Inv-loop
     μ-loop
     loop-holds
-    add-next
-    is-used-requires
-    loop-less
+    (λ c. search needs)
+    (λ c κs. search needs)
+    (λ c. search needs)
     loop-again
-    links-of-requires
-    start-of-requires
+    (λ c κs. search needs)
+    (λ c κs. search needs)
     touches-requires
     returns
     mark-chain-requires
-    loop-less-2
+    (λ c. search needs)
     loop-again-2
     returns-2)

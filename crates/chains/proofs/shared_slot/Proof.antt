@@ -8,21 +8,12 @@ use Rattle.chains.specs.Lemmas.Tally.{tally-apart}
 use Rattle.chains.proofs.shared_slot.Statement.{statement}
 use Rattle.chains.proofs.shared_slot.Tie as tie
 
-count-chained-requires : tie.Need-count-chained-requires
-count-chained-requires c κs = search needs
-
 returns : tie.Need-returns
 returns c =
     let s = c .before .before .before in
     let a = s .args in
     sym (tally-apart (a .layout) (s .pre .0) (viewOf (a .layout) (bytes (a .head .now))) (s .pre .2) (sym (s .pre .3) ∙ c .if1 .taken ∙ c .before .count-chained .ensures))
 
-share-fault-requires : tie.Need-share-fault-requires
-share-fault-requires c κs = search needs
-
-returns-2 : tie.Need-returns-2
-returns-2 c = search needs
-
 pub shared-slot-spec : {M : Type 1} → statement M
 shared-slot-spec =
-    tie.close (tie.spec count-chained-requires returns share-fault-requires returns-2)
+    tie.close (tie.spec (λ c κs. search needs) returns (λ c κs. search needs) (λ c. search needs))

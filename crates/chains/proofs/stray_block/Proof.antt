@@ -11,12 +11,6 @@ use Rattle.chains.specs.Lemmas.Tally.{free-most, tally-all}
 use Rattle.chains.proofs.stray_block.Statement.{statement}
 use Rattle.chains.proofs.stray_block.Tie as tie
 
-sub-left : tie.Need-sub-left
-sub-left c = search needs
-
-count-free-requires : tie.Need-count-free-requires
-count-free-requires c κs = search needs
-
 -- no more blocks are free than there are
 most : (c : tie.After-count-free) → (let a = c .before .before .before .args in freeCount (a .layout) (mapAt (bytes (a .head .now))) ≤ a .layout .blocks - a .layout .first)
 most c = let a = c .before .before .before .args in free-most (a .layout) (mapAt (bytes (a .head .now)))
@@ -31,13 +25,7 @@ returns c =
     let v = viewOf (a .layout) (bytes (a .head .now)) in
     sym (tally-all (a .layout) (s .pre .0) v (s .pre .2) (omega (arith, s .pre .3, c .if1 .taken, c .before .count-free .ensures, most (c .before))))
 
-stray-fault-requires : tie.Need-stray-fault-requires
-stray-fault-requires c κs = search needs
-
-returns-2 : tie.Need-returns-2
-returns-2 c = search needs
-
 pub stray-block-spec : {M : Type 1} → statement M
 stray-block-spec =
     tie.close
-    (tie.spec sub-left count-free-requires sub-left-2 returns stray-fault-requires returns-2)
+    (tie.spec (λ c. search needs) (λ c κs. search needs) sub-left-2 returns (λ c κs. search needs) (λ c. search needs))

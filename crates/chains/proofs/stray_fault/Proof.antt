@@ -19,20 +19,11 @@ Inv-loop head layout marks first last block₀ block =
 abbrev μ-loop : tie.MeasureT-loop
 μ-loop head layout marks first last block₀ block = layout .blocks - block
 
-sub-last : tie.Need-sub-last Inv-loop μ-loop
-sub-last c = search needs
-
 loop-holds : tie.Need-loop-holds Inv-loop μ-loop
 loop-holds c = refl
 
 is-stray-requires : tie.Need-is-stray-requires Inv-loop μ-loop
 is-stray-requires c κs = (omega arith, omega arith, c .before .before .before .before .pre .2)
-
-add-block : tie.Need-add-block Inv-loop μ-loop
-add-block c = search needs
-
-loop-less : tie.Need-loop-less Inv-loop μ-loop
-loop-less c = search needs
 
 returns : tie.Need-returns Inv-loop μ-loop
 returns c =
@@ -53,11 +44,11 @@ stray-fault-spec =
     (tie.spec
     Inv-loop
     μ-loop
-    sub-last
+    (λ c. search needs)
     loop-holds
     is-stray-requires
     returns
-    add-block
-    loop-less
+    (λ c. search needs)
+    (λ c. search needs)
     loop-again
     returns-2)

@@ -28,15 +28,6 @@ abbrev μ-loop : tie.MeasureT-loop
 loop-holds : tie.Need-loop-holds Inv-loop μ-loop
 loop-holds c = rw sub-zero
 
-map-at-requires : tie.Need-map-at-requires Inv-loop μ-loop
-map-at-requires c κs = search needs
-
-add-block : tie.Need-add-block Inv-loop μ-loop
-add-block c = search needs
-
-loop-less : tie.Need-loop-less Inv-loop μ-loop
-loop-less c = search needs
-
 returns : tie.Need-returns Inv-loop μ-loop
 unfolding badSystem
 returns c =
@@ -59,9 +50,9 @@ system-fault-spec =
     Inv-loop
     μ-loop
     loop-holds
-    map-at-requires
+    (λ c κs. search needs)
     returns
-    add-block
-    loop-less
+    (λ c. search needs)
+    (λ c. search needs)
     loop-again
     returns-2)

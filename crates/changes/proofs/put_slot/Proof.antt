@@ -63,30 +63,6 @@ left : (l : Layout) (img : List ℕ) (s : ℕ) (area : List ℕ) (type : ℕ) (c
 unfolding putArea fillBlocks chosen
 left l img s area type content {lent} k p q r t = rw (t, q, p, r, ← first-there lent 0 0 (k .some), k .same) refl
 
-mul-at : tie.Need-mul-at
-mul-at c = search needs
-
-add-at : tie.Need-add-at
-add-at c = search needs
-
-add-wanted : tie.Need-add-wanted
-add-wanted c = search needs
-
-free-blocks-requires : tie.Need-free-blocks-requires
-free-blocks-requires c κs = search needs
-
-sub-chosen : tie.Need-sub-chosen
-sub-chosen c = search needs
-
-part-chosen-start : tie.Need-part-chosen-start
-part-chosen-start c = search needs
-
-write-entry-requires : tie.Need-write-entry-requires
-write-entry-requires c κs = search needs
-
-same-length : tie.Need-same-length
-same-length c = search needs
-
 part-chosen-end : tie.Need-part-chosen-end
 part-chosen-end c = count-fits _ (c .before .before .free-blocks .result) (c .before .before .free-blocks .ensures)
 
@@ -119,16 +95,16 @@ pub put-slot-spec : {M : Type 1} → statement M
 put-slot-spec =
     tie.close
     (tie.spec
-    mul-at
-    add-at
-    add-wanted
-    free-blocks-requires
-    sub-chosen
-    part-chosen-start
+    (λ c. search needs)
+    (λ c. search needs)
+    (λ c. search needs)
+    (λ c κs. search needs)
+    (λ c. search needs)
+    (λ c. search needs)
     part-chosen-end
     write-blocks-requires
     link-blocks-requires
     block-of-requires
-    write-entry-requires
-    same-length
+    (λ c κs. search needs)
+    (λ c. search needs)
     returns)

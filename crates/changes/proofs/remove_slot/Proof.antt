@@ -30,33 +30,6 @@ erased : (l : Layout) (img : List ℕ) (s : ℕ) {size start : ℕ} {lent one tw
 unfolding removeImage eraseEntry entryChain
 erased l img s p q e f g = rw (g, f, e, p, q) refl
 
-mul-at : tie.Need-mul-at
-mul-at c = search needs
-
-add-at : tie.Need-add-at
-add-at c = search needs
-
-size-of-requires : tie.Need-size-of-requires
-size-of-requires c κs = search needs
-
-start-of-requires : tie.Need-start-of-requires
-start-of-requires c κs = search needs
-
-sub-chain-blocks : tie.Need-sub-chain-blocks
-sub-chain-blocks c = search needs
-
-sub-clear-blocks : tie.Need-sub-clear-blocks
-sub-clear-blocks c = search needs
-
-part-clear-blocks-start : tie.Need-part-clear-blocks-start
-part-clear-blocks-start c = search needs
-
-clear-requires : tie.Need-clear-requires
-clear-requires c κs = search needs
-
-same-length : tie.Need-same-length
-same-length c = search needs
-
 chain-blocks-requires : tie.Need-chain-blocks-requires
 chain-blocks-requires c κs =
     let p = c .before .before .before .before .before .before .before in (
@@ -89,16 +62,16 @@ pub remove-slot-spec : {M : Type 1} → statement M
 remove-slot-spec =
     tie.close
     (tie.spec
-    mul-at
-    add-at
-    size-of-requires
-    start-of-requires
-    sub-chain-blocks
+    (λ c. search needs)
+    (λ c. search needs)
+    (λ c κs. search needs)
+    (λ c κs. search needs)
+    (λ c. search needs)
     chain-blocks-requires
-    sub-clear-blocks
-    part-clear-blocks-start
+    (λ c. search needs)
+    (λ c. search needs)
     part-clear-blocks-end
     clear-blocks-requires
-    clear-requires
-    same-length
+    (λ c κs. search needs)
+    (λ c. search needs)
     returns)

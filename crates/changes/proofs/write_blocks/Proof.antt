@@ -46,51 +46,6 @@ Inv-loop image₀ chosen content end total k₀ image k =
 abbrev μ-loop : tie.MeasureT-loop
 μ-loop image₀ chosen content end total k₀ image k = length chosen - k
 
-mul-from : tie.Need-mul-from Inv-loop μ-loop
-mul-from c = search needs
-
-add-least : tie.Need-add-least Inv-loop μ-loop
-add-least c = search needs
-
-least-requires : tie.Need-least-requires Inv-loop μ-loop
-least-requires c κs = search needs
-
-mul-at : tie.Need-mul-at Inv-loop μ-loop
-mul-at c = search needs
-
-add-stop : tie.Need-add-stop Inv-loop μ-loop
-add-stop c = search needs
-
-sub-write-block : tie.Need-sub-write-block Inv-loop μ-loop
-sub-write-block c = search needs
-
-part-write-block-start : tie.Need-part-write-block-start Inv-loop μ-loop
-part-write-block-start c = search needs
-
-part-write-block-end : tie.Need-part-write-block-end Inv-loop μ-loop
-part-write-block-end c = search needs
-
-sub-write-block-2 : tie.Need-sub-write-block-2 Inv-loop μ-loop
-sub-write-block-2 c = search needs
-
-part-write-block-start-2 : tie.Need-part-write-block-start-2 Inv-loop μ-loop
-part-write-block-start-2 c = search needs
-
-part-write-block-end-2 : tie.Need-part-write-block-end-2 Inv-loop μ-loop
-part-write-block-end-2 c = search needs
-
-write-block-requires : tie.Need-write-block-requires Inv-loop μ-loop
-write-block-requires c κs = search needs
-
-add-k : tie.Need-add-k Inv-loop μ-loop
-add-k c = search needs
-
-loop-less : tie.Need-loop-less Inv-loop μ-loop
-loop-less c = search needs
-
-same-length : tie.Need-same-length Inv-loop μ-loop
-same-length c = search needs
-
 loop-holds : tie.Need-loop-holds Inv-loop μ-loop
 loop-holds c = (omega arith, refl, refl)
 
@@ -125,21 +80,21 @@ write-blocks-spec =
     Inv-loop
     μ-loop
     loop-holds
-    mul-from
-    add-least
-    least-requires
+    (λ c. search needs)
+    (λ c. search needs)
+    (λ c κs. search needs)
     block-of-requires
-    mul-at
-    add-stop
-    sub-write-block
-    part-write-block-start
-    part-write-block-end
-    sub-write-block-2
-    part-write-block-start-2
-    part-write-block-end-2
-    write-block-requires
-    add-k
-    loop-less
+    (λ c. search needs)
+    (λ c. search needs)
+    (λ c. search needs)
+    (λ c. search needs)
+    (λ c. search needs)
+    (λ c. search needs)
+    (λ c. search needs)
+    (λ c. search needs)
+    (λ c κs. search needs)
+    (λ c. search needs)
+    (λ c. search needs)
     loop-again
-    same-length
+    (λ c. search needs)
     returns)

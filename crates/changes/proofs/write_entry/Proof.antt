@@ -34,24 +34,6 @@ unfolding setEntry part
 written img at area type size start n p q r =
     rw (r, q, p, take-all 16 area (omega arith)) (fields (splice img at area) at type size start ∙ join img at (at + 16) area _ (omega arith))
 
-slice-aggregate-copy-part : tie.Need-slice-aggregate-copy-part
-slice-aggregate-copy-part c = search needs
-
-copy-part-requires : tie.Need-copy-part-requires
-copy-part-requires c κs = search needs
-
-add-image : tie.Need-add-image
-add-image c = search needs
-
-slice-write-image : tie.Need-slice-write-image
-slice-write-image c = search needs
-
-add-store3 : tie.Need-add-store3
-add-store3 c = search needs
-
-add-store2 : tie.Need-add-store2
-add-store2 c = search needs
-
 store3-requires : tie.Need-store3-requires
 store3-requires c κs = simp length-set (omega arith)
 
@@ -71,13 +53,13 @@ pub write-entry-spec : {M : Type 1} → statement M
 write-entry-spec =
     tie.close
     (tie.spec
-    slice-aggregate-copy-part
-    copy-part-requires
-    add-image
-    slice-write-image
-    add-store3
+    (λ c. search needs)
+    (λ c κs. search needs)
+    (λ c. search needs)
+    (λ c. search needs)
+    (λ c. search needs)
     store3-requires
-    add-store2
+    (λ c. search needs)
     store2-requires
     same-length
     returns)

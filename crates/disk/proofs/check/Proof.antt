@@ -8,11 +8,8 @@ use Rattle.rules.specs.Head.{start-check}
 use Rattle.disk.proofs.check.Statement.{statement}
 use Rattle.disk.proofs.check.Tie as tie
 
-check-head-requires : tie.Need-check-head-requires
-check-head-requires c κs = search needs
-
 returns : tie.Need-returns
 returns c = let img = now (c .before .before .args .image) in c .check-head .ensures ∙ start-check img img (omega arith) refl
 
 pub check-spec : {M : Type 1} → statement M
-check-spec = tie.close (tie.spec check-head-requires returns)
+check-spec = tie.close (tie.spec (λ c κs. search needs) returns)

@@ -7,16 +7,10 @@ use Rattle.disk.specs.Lemmas.Steps.{made-right, first-held, directory-he
 use Rattle.disk.proofs.check_as.Statement.{statement}
 use Rattle.disk.proofs.check_as.Tie as tie
 
-layout-of-requires : tie.Need-layout-of-requires
-layout-of-requires c κs = search needs
-
 disk-rules-requires : tie.Need-disk-rules-requires
 disk-rules-requires c κs =
     let p = c .before .before in
     (made-right (p .args .kind) (p .args .density) (c .layout-of .ensures), first-held (p .args .kind) (p .args .density) (c .layout-of .ensures) (p .pre))
-
-enum-told : tie.Need-enum-told
-enum-told c = search needs
 
 count-used-requires : tie.Need-count-used-requires
 count-used-requires c κs =
@@ -29,9 +23,6 @@ count-free-requires c κs =
     let y = c .before .before .before .before in
     let p = y .before .before in
     (made-right (p .args .kind) (p .args .density) (y .layout-of .ensures), first-held (p .args .kind) (p .args .density) (y .layout-of .ensures) (p .pre))
-
-enum-known-ruled : tie.Need-enum-known-ruled
-enum-known-ruled c = search needs
 
 returns : tie.Need-returns
 returns c =
@@ -50,11 +41,11 @@ pub check-as-spec : {M : Type 1} → statement M
 check-as-spec =
     tie.close
     (tie.spec
-    layout-of-requires
+    (λ c κs. search needs)
     disk-rules-requires
-    enum-told
+    (λ c. search needs)
     count-used-requires
     count-free-requires
-    enum-known-ruled
+    (λ c. search needs)
     returns
     returns-2)

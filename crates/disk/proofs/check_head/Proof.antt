@@ -9,22 +9,10 @@ use Rattle.disk.proofs.check_head.Tie as tie
 returns : tie.Need-returns
 returns c = start-short _ _ (c .if1 .taken)
 
-image-length-requires : tie.Need-image-length-requires
-image-length-requires c κs = search needs
-
-check-kinds-requires : tie.Need-check-kinds-requires
-check-kinds-requires c κs = search needs
-
 returns-2 : tie.Need-returns-2
 returns-2 c =
     let y = c .before .before in
     c .check-kinds .ensures ∙ start-low _ _ (y .before .if1 .left) (c .before .if2 .taken ∙ y .image-length .ensures)
-
-image-length-requires-2 : tie.Need-image-length-requires-2
-image-length-requires-2 c κs = search needs
-
-check-kinds-requires-2 : tie.Need-check-kinds-requires-2
-check-kinds-requires-2 c κs = search needs
 
 returns-3 : tie.Need-returns-3
 returns-3 c =
@@ -42,10 +30,10 @@ check-head-spec =
     tie.close
     (tie.spec
     returns
-    image-length-requires
-    check-kinds-requires
+    (λ c κs. search needs)
+    (λ c κs. search needs)
     returns-2
-    image-length-requires-2
-    check-kinds-requires-2
+    (λ c κs. search needs)
+    (λ c κs. search needs)
     returns-3
     returns-4)

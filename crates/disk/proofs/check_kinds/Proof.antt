@@ -12,16 +12,10 @@ use Rattle.disk.specs.Lemmas.Steps.{directory-held, kinds-900, kinds-100
 use Rattle.disk.proofs.check_kinds.Statement.{statement}
 use Rattle.disk.proofs.check_kinds.Tie as tie
 
-layout-of-requires : tie.Need-layout-of-requires
-layout-of-requires c κs = search needs
-
 has-identity-requires : tie.Need-has-identity-requires
 has-identity-requires c κs =
     let p = c .before .before in
     directory-held S900 (p .args .density) (c .layout-of .ensures) (p .pre)
-
-check-as-requires : tie.Need-check-as-requires
-check-as-requires c κs = search needs
 
 -- the two tests are of the kinds' identities
 first : (c : tie.After-has-identity) → let a = c .before .before .before .args in
@@ -36,16 +30,10 @@ returns : tie.Need-returns
 returns c =
     c .check-as .ensures ∙ kinds-900 _ _ (first (c .before .before)) (c .before .if1 .taken)
 
-layout-of-requires-2 : tie.Need-layout-of-requires-2
-layout-of-requires-2 c κs = search needs
-
 has-identity-requires-2 : tie.Need-has-identity-requires-2
 has-identity-requires-2 c κs =
     let p = c .before .before .before .before .before in
     directory-held S1000 (p .args .density) (c .layout-of2 .ensures) (p .pre)
-
-check-as-requires-2 : tie.Need-check-as-requires-2
-check-as-requires-2 c κs = search needs
 
 returns-2 : tie.Need-returns-2
 returns-2 c =
@@ -63,12 +51,12 @@ pub check-kinds-spec : {M : Type 1} → statement M
 check-kinds-spec =
     tie.close
     (tie.spec
-    layout-of-requires
+    (λ c κs. search needs)
     has-identity-requires
-    check-as-requires
+    (λ c κs. search needs)
     returns
-    layout-of-requires-2
+    (λ c κs. search needs)
     has-identity-requires-2
-    check-as-requires-2
+    (λ c κs. search needs)
     returns-2
     returns-3)

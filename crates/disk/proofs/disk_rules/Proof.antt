@@ -5,25 +5,10 @@ use Rattle.disk.specs.Lemmas.Steps.{rules-system, rules-form, rules-name
 use Rattle.disk.proofs.disk_rules.Statement.{statement}
 use Rattle.disk.proofs.disk_rules.Tie as tie
 
-system-fault-requires : tie.Need-system-fault-requires
-system-fault-requires c κs = search needs
-
-enum-known-system : tie.Need-enum-known-system
-enum-known-system c = search needs
-
 returns : tie.Need-returns
 returns c =
     let d = c .before .before .before in
     rules-system _ _ (d .system-fault .ensures) (c .before .system .given .1)
-
-enum-told : tie.Need-enum-told
-enum-told c = search needs
-
-form-fault-requires : tie.Need-form-fault-requires
-form-fault-requires c κs = search needs
-
-enum-known-malformed : tie.Need-enum-known-malformed
-enum-known-malformed c = search needs
 
 returns-2 : tie.Need-returns-2
 returns-2 c =
@@ -31,27 +16,12 @@ returns-2 c =
     let f = d .before .before .before in
     rules-form _ _ (f .system-fault .ensures) (d .before .enum-told .given .1) (d .form-fault .ensures) (c .before .malformed .given .1)
 
-enum-told-2 : tie.Need-enum-told-2
-enum-told-2 c = search needs
-
-name-fault-requires : tie.Need-name-fault-requires
-name-fault-requires c κs = search needs
-
-enum-known-repeated : tie.Need-enum-known-repeated
-enum-known-repeated c = search needs
-
 returns-3 : tie.Need-returns-3
 returns-3 c =
     let e = c .before .before .before in
     let d = e .before .before .before in
     let f = d .before .before .before in
     rules-name _ _ (f .system-fault .ensures) (d .before .enum-told .given .1) (d .form-fault .ensures) (e .before .enum-told2 .given .1) (e .name-fault .ensures) (c .before .repeated .given .1)
-
-enum-told-3 : tie.Need-enum-told-3
-enum-told-3 c = search needs
-
-chain-rules-requires : tie.Need-chain-rules-requires
-chain-rules-requires c κs = search needs
 
 returns-4 : tie.Need-returns-4
 returns-4 c =
@@ -65,17 +35,17 @@ pub disk-rules-spec : {M : Type 1} → statement M
 disk-rules-spec =
     tie.close
     (tie.spec
-    system-fault-requires
-    enum-known-system
+    (λ c κs. search needs)
+    (λ c. search needs)
     returns
-    enum-told
-    form-fault-requires
-    enum-known-malformed
+    (λ c. search needs)
+    (λ c κs. search needs)
+    (λ c. search needs)
     returns-2
-    enum-told-2
-    name-fault-requires
-    enum-known-repeated
+    (λ c. search needs)
+    (λ c κs. search needs)
+    (λ c. search needs)
     returns-3
-    enum-told-3
-    chain-rules-requires
+    (λ c. search needs)
+    (λ c κs. search needs)
     returns-4)

@@ -5,9 +5,6 @@ use Rattle.headers.specs.Tables.{allRows, part-within, part-fault}
 use Rattle.headers.proofs.fault.Statement.{statement}
 use Rattle.headers.proofs.fault.Tie as tie
 
-part-of-requires : tie.Need-part-of-requires
-part-of-requires c κs = search needs
-
 rows-fault-requires : tie.Need-rows-fault-requires
 rows-fault-requires c κs =
     let w = part-within (c .before .before .args .table) (c .part-of .ensures) in
@@ -18,4 +15,4 @@ unfolding allRows
 returns c = part-fault (c .before .before .before .args .table) (c .before .part-of .ensures) _ _ (c .rows-fault .ensures)
 
 pub fault-spec : {M : Type 1} → statement M
-fault-spec = tie.close (tie.spec part-of-requires rows-fault-requires returns)
+fault-spec = tie.close (tie.spec (λ c κs. search needs) rows-fault-requires returns)

@@ -6,18 +6,6 @@ use Rattle.headers.specs.Tables.{partOf}
 use Rattle.headers.proofs.part_of.Statement.{statement}
 use Rattle.headers.proofs.part_of.Tie as tie
 
-enum-told : tie.Need-enum-told
-enum-told c = search needs
-
-enum-told-2 : tie.Need-enum-told-2
-enum-told-2 c = search needs
-
-enum-told-3 : tie.Need-enum-told-3
-enum-told-3 c = search needs
-
-enum-told-4 : tie.Need-enum-told-4
-enum-told-4 c = search needs
-
 returns : tie.Need-returns
 returns c = sym (ap partOf (c .enum-told .given .1))
 
@@ -33,4 +21,4 @@ returns-4 c = sym (ap partOf (c .enum-told4 .given .1))
 pub part-of-spec : {M : Type 1} → statement M
 part-of-spec =
     tie.close
-    (tie.spec enum-told enum-told-2 enum-told-3 enum-told-4 returns returns-2 returns-3 returns-4)
+    (tie.spec (λ c. search needs) (λ c. search needs) (λ c. search needs) (λ c. search needs) returns returns-2 returns-3 returns-4)

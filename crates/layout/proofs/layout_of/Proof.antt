@@ -7,24 +7,6 @@ use Rattle.layout.specs.Layouts.{layoutOf, s900, s1000}
 use Rattle.layout.proofs.layout_of.Statement.{statement}
 use Rattle.layout.proofs.layout_of.Tie as tie
 
-blocks-of-requires : tie.Need-blocks-of-requires
-blocks-of-requires c κs = search needs
-
-first-of-requires : tie.Need-first-of-requires
-first-of-requires c κs = search needs
-
-enum-told : tie.Need-enum-told
-enum-told c = search needs
-
-s900-layout-requires : tie.Need-s900-layout-requires
-s900-layout-requires c κs = search needs
-
-enum-told-2 : tie.Need-enum-told-2
-enum-told-2 c = search needs
-
-s1000-layout-requires : tie.Need-s1000-layout-requires
-s1000-layout-requires c κs = search needs
-
 returns : tie.Need-returns
 returns c =
     let d = c .before .before .before .before .before .args .density in
@@ -43,11 +25,11 @@ pub layout-of-spec : {M : Type 1} → statement M
 layout-of-spec =
     tie.close
     (tie.spec
-    blocks-of-requires
-    first-of-requires
-    enum-told
-    s900-layout-requires
-    enum-told-2
-    s1000-layout-requires
+    (λ c κs. search needs)
+    (λ c κs. search needs)
+    (λ c. search needs)
+    (λ c κs. search needs)
+    (λ c. search needs)
+    (λ c κs. search needs)
     returns
     returns-2)

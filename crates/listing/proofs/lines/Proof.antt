@@ -8,24 +8,6 @@ use Rattle.listing.specs.Lemmas.Puts.{puts-none, puts-then, puts-fills, 
 use Rattle.listing.proofs.lines.Statement.{statement}
 use Rattle.listing.proofs.lines.Tie as tie
 
-check-head-requires : tie.Need-check-head-requires
-check-head-requires c κs = search needs
-
-put-checked-requires : tie.Need-put-checked-requires
-put-checked-requires c κs = search needs
-
-slice-aggregate-put : tie.Need-slice-aggregate-put
-slice-aggregate-put c = search needs
-
-put-requires : tie.Need-put-requires
-put-requires c κs = search needs
-
-enum-known-checked : tie.Need-enum-known-checked
-enum-known-checked c = search needs
-
-enum-told : tie.Need-enum-told
-enum-told c = search needs
-
 returns : tie.Need-returns
 returns c =
     let l = c .before .before in
@@ -35,9 +17,6 @@ returns c =
     rw (lines-refused (now (a .head)) (a .length) (k .check-head .ensures) (c .enum-told .given .1))
     (puts-fills (puts-then (puts-then (p .put-checked .ensures) (l .put .ensures)) puts-none) (omega (arith, length-puts (p .put-checked .ensures))))
 
-layout-of-requires : tie.Need-layout-of-requires
-layout-of-requires c κs = search needs
-
 put-slots-requires : tie.Need-put-slots-requires
 put-slots-requires c κs =
     let d = c .before in
@@ -46,18 +25,6 @@ put-slots-requires c κs =
     let a = k .before .before .args in
     let r = accepted-directory (now (a .head)) (a .length) (k .check-head .ensures) (d .before .before .checked .given .1) (d .layout-of .ensures) in
     (r .0, r .1, r .2, omega arith)
-
-slice-aggregate-put-number : tie.Need-slice-aggregate-put-number
-slice-aggregate-put-number c = search needs
-
-put-number-requires : tie.Need-put-number-requires
-put-number-requires c κs = search needs
-
-slice-aggregate-put-2 : tie.Need-slice-aggregate-put-2
-slice-aggregate-put-2 c = search needs
-
-put-requires-2 : tie.Need-put-requires-2
-put-requires-2 c κs = search needs
 
 returns-2 : tie.Need-returns-2
 returns-2 c =
@@ -76,17 +43,17 @@ pub lines-spec : {M : Type 1} → statement M
 lines-spec =
     tie.close
     (tie.spec
-    check-head-requires
-    put-checked-requires
-    slice-aggregate-put
-    put-requires
-    enum-known-checked
-    enum-told
+    (λ c κs. search needs)
+    (λ c κs. search needs)
+    (λ c. search needs)
+    (λ c κs. search needs)
+    (λ c. search needs)
+    (λ c. search needs)
     returns
-    layout-of-requires
+    (λ c κs. search needs)
     put-slots-requires
-    slice-aggregate-put-number
-    put-number-requires
-    slice-aggregate-put-2
-    put-requires-2
+    (λ c. search needs)
+    (λ c κs. search needs)
+    (λ c. search needs)
+    (λ c κs. search needs)
     returns-2)

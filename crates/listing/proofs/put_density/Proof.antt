@@ -6,24 +6,6 @@ use Rattle.listing.specs.Lemmas.Puts.{puts-near}
 use Rattle.listing.proofs.put_density.Statement.{statement}
 use Rattle.listing.proofs.put_density.Tie as tie
 
-enum-told : tie.Need-enum-told
-enum-told c = search needs
-
-slice-aggregate-put : tie.Need-slice-aggregate-put
-slice-aggregate-put c = search needs
-
-put-requires : tie.Need-put-requires
-put-requires c κs = search needs
-
-enum-told-2 : tie.Need-enum-told-2
-enum-told-2 c = search needs
-
-slice-aggregate-put-2 : tie.Need-slice-aggregate-put-2
-slice-aggregate-put-2 c = search needs
-
-put-requires-2 : tie.Need-put-requires-2
-put-requires-2 c κs = search needs
-
 returns : tie.Need-returns
 returns c = rw (c .before .before .before .enum-told .given .1) (puts-near (c .put .ensures) 5 (omega arith))
 
@@ -34,11 +16,11 @@ pub put-density-spec : {M : Type 1} → statement M
 put-density-spec =
     tie.close
     (tie.spec
-    enum-told
-    slice-aggregate-put
-    put-requires
-    enum-told-2
-    slice-aggregate-put-2
-    put-requires-2
+    (λ c. search needs)
+    (λ c. search needs)
+    (λ c κs. search needs)
+    (λ c. search needs)
+    (λ c. search needs)
+    (λ c κs. search needs)
     returns
     returns-2)

@@ -24,15 +24,6 @@ loop-holds : tie.Need-loop-holds Inv-loop μ-loop
 unfolding slotLines
 loop-holds c = (omega arith, puts-none)
 
-put-slot-requires : tie.Need-put-slot-requires Inv-loop μ-loop
-put-slot-requires c κs = search needs
-
-add-slot : tie.Need-add-slot Inv-loop μ-loop
-add-slot c = search needs
-
-loop-less : tie.Need-loop-less Inv-loop μ-loop
-loop-less c = search needs
-
 loop-again : tie.Need-loop-again Inv-loop μ-loop
 unfolding slotLines
 loop-again c =
@@ -46,4 +37,4 @@ returns c = let l = c .before .loop in let e : l .slot ≡ 64 = omega arith in r
 pub put-slots-spec : {M : Type 1} → statement M
 put-slots-spec =
     tie.close
-    (tie.spec Inv-loop μ-loop loop-holds put-slot-requires add-slot loop-less loop-again returns)
+    (tie.spec Inv-loop μ-loop loop-holds (λ c κs. search needs) (λ c. search needs) (λ c. search needs) loop-again returns)

@@ -16,19 +16,10 @@ returns c =
     let a = c .before .before .before .args in
     blocks-above (a .layout) (now (a .image)) (a .slot) (now (a .out)) (c .if1 .taken)
 
-is-used-requires : tie.Need-is-used-requires
-is-used-requires c κs = search needs
-
 returns-2 : tie.Need-returns-2
 returns-2 c =
     let a = c .before .before .before .before .before .args in
     blocks-empty (a .layout) (now (a .image)) (a .slot) (now (a .out)) (omega arith) (sym (c .before .is-used .ensures) ∙ not-true _ (c .if2 .taken))
-
-size-of-requires : tie.Need-size-of-requires
-size-of-requires c κs = search needs
-
-start-of-requires : tie.Need-start-of-requires
-start-of-requires c κs = search needs
 
 sub-chain-blocks : tie.Need-sub-chain-blocks
 sub-chain-blocks c =
@@ -52,20 +43,8 @@ returns-3 c =
     let here = sym (f .before .before .before .before .is-used .ensures) ∙ not-false _ (f .before .before .before .if2 .left) in
     blocks-short (a .layout) (now (a .image)) (a .slot) (omega arith) here (f .before .before .size-of .ensures) (f .before .start-of .ensures) (f .chain-blocks .result) (f .chain-blocks .ensures) (now (a .out)) (c .if3 .taken)
 
-sub-copy-blocks : tie.Need-sub-copy-blocks
-sub-copy-blocks c = search needs
-
-part-copy-blocks-start : tie.Need-part-copy-blocks-start
-part-copy-blocks-start c = search needs
-
 part-copy-blocks-end : tie.Need-part-copy-blocks-end
 part-copy-blocks-end c = count-fits _ (c .before .before .before .chain-blocks .result) (c .before .before .before .chain-blocks .ensures)
-
-copy-blocks-requires : tie.Need-copy-blocks-requires
-copy-blocks-requires c κs = search needs
-
-same-length : tie.Need-same-length
-same-length c = search needs
 
 returns-4 : tie.Need-returns-4
 returns-4 c =
@@ -81,16 +60,16 @@ slot-blocks-spec =
     tie.close
     (tie.spec
     returns
-    is-used-requires
+    (λ c κs. search needs)
     returns-2
-    size-of-requires
-    start-of-requires
+    (λ c κs. search needs)
+    (λ c κs. search needs)
     sub-chain-blocks
     chain-blocks-requires
     returns-3
-    sub-copy-blocks
-    part-copy-blocks-start
+    (λ c. search needs)
+    (λ c. search needs)
     part-copy-blocks-end
-    copy-blocks-requires
-    same-length
+    (λ c κs. search needs)
+    (λ c. search needs)
     returns-4)

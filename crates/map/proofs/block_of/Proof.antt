@@ -7,19 +7,10 @@ use Rattle.map.specs.Lemmas.Linking.{nth-in}
 use Rattle.map.proofs.block_of.Statement.{statement}
 use Rattle.map.proofs.block_of.Tie as tie
 
-mul-wide : tie.Need-mul-wide
-mul-wide c = search needs
-
-shared-slice-read-wide : tie.Need-shared-slice-read-wide
-shared-slice-read-wide c = search needs
-
-wide-requires : tie.Need-wide-requires
-wide-requires c κs = search needs
-
 returns : tie.Need-returns
 returns c =
     let s = c .before .before .before in
     (c .wide .ensures, omega (arith, s .pre .1 (getD (s .args .list .now) (s .args .k) 0) (nth-in (s .args .list .now) (s .args .k) (omega arith))))
 
 pub block-of-spec : {M : Type 1} → statement M
-block-of-spec = tie.close (tie.spec mul-wide shared-slice-read-wide wide-requires returns)
+block-of-spec = tie.close (tie.spec (λ c. search needs) (λ c. search needs) (λ c κs. search needs) returns)

@@ -21,12 +21,6 @@ Inv-loop image links start list₀ block₀ k₀ list block k =
 abbrev μ-loop : tie.MeasureT-loop
 μ-loop image links start list₀ block₀ k₀ list block k = links - k
 
-add-k : tie.Need-add-k Inv-loop μ-loop
-add-k c = search needs
-
-loop-less : tie.Need-loop-less Inv-loop μ-loop
-loop-less c = search needs
-
 -- the block in hand is the chain's k-th, so a data block
 inside : (c : tie.At-loop Inv-loop μ-loop) → Data (c .before .before .args .layout) (c .loop .block)
 inside c =
@@ -100,8 +94,8 @@ chain-blocks-spec =
     mul-list
     array-write-list
     map-at-requires
-    add-k
-    loop-less
+    (λ c. search needs)
+    (λ c. search needs)
     loop-again
     cast-list-2
     mul-list-2

@@ -16,18 +16,6 @@ Inv-loop image₀ freed end k₀ image k = (k ≤ length freed) × (length image
 abbrev μ-loop : tie.MeasureT-loop
 μ-loop image₀ freed end k₀ image k = length freed - k
 
-set-map-requires : tie.Need-set-map-requires Inv-loop μ-loop
-set-map-requires c κs = search needs
-
-add-k : tie.Need-add-k Inv-loop μ-loop
-add-k c = search needs
-
-loop-less : tie.Need-loop-less Inv-loop μ-loop
-loop-less c = search needs
-
-same-length : tie.Need-same-length Inv-loop μ-loop
-same-length c = search needs
-
 loop-holds : tie.Need-loop-holds Inv-loop μ-loop
 loop-holds c = (omega arith, refl, refl)
 
@@ -60,9 +48,9 @@ clear-blocks-spec =
     μ-loop
     loop-holds
     block-of-requires
-    set-map-requires
-    add-k
-    loop-less
+    (λ c κs. search needs)
+    (λ c. search needs)
+    (λ c. search needs)
     loop-again
-    same-length
+    (λ c. search needs)
     returns)

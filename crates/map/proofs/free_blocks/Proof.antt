@@ -21,18 +21,6 @@ Inv-loop image wanted first end list₀ count₀ block₀ list count block =
 abbrev μ-loop : tie.MeasureT-loop
 μ-loop image wanted first end list₀ count₀ block₀ list count block = end - block
 
-map-at-requires : tie.Need-map-at-requires Inv-loop μ-loop
-map-at-requires c κs = search needs
-
-mul-list : tie.Need-mul-list Inv-loop μ-loop
-mul-list c = search needs
-
-add-block : tie.Need-add-block Inv-loop μ-loop
-add-block c = search needs
-
-loop-less : tie.Need-loop-less Inv-loop μ-loop
-loop-less c = search needs
-
 loop-holds : tie.Need-loop-holds Inv-loop μ-loop
 loop-holds c =
     let e : c .before .args .wanted - 0 ≡ c .before .args .wanted = omega arith in
@@ -99,13 +87,13 @@ free-blocks-spec =
     Inv-loop
     μ-loop
     loop-holds
-    map-at-requires
+    (λ c κs. search needs)
     cast-list
-    mul-list
+    (λ c. search needs)
     array-write-list
     add-count
-    add-block
-    loop-less
+    (λ c. search needs)
+    (λ c. search needs)
     loop-again
     returns
     returns-2)

@@ -16,21 +16,6 @@ Inv-loop image₀ chosen end mark k₀ image k = (k ≤ length chosen) × (lengt
 abbrev μ-loop : tie.MeasureT-loop
 μ-loop image₀ chosen end mark k₀ image k = length chosen - k
 
-next-of-requires : tie.Need-next-of-requires Inv-loop μ-loop
-next-of-requires c κs = search needs
-
-set-map-requires : tie.Need-set-map-requires Inv-loop μ-loop
-set-map-requires c κs = search needs
-
-add-k : tie.Need-add-k Inv-loop μ-loop
-add-k c = search needs
-
-loop-less : tie.Need-loop-less Inv-loop μ-loop
-loop-less c = search needs
-
-same-length : tie.Need-same-length Inv-loop μ-loop
-same-length c = search needs
-
 loop-holds : tie.Need-loop-holds Inv-loop μ-loop
 loop-holds c = (omega arith, refl, refl)
 
@@ -63,10 +48,10 @@ link-blocks-spec =
     μ-loop
     loop-holds
     block-of-requires
-    next-of-requires
-    set-map-requires
-    add-k
-    loop-less
+    (λ c κs. search needs)
+    (λ c κs. search needs)
+    (λ c. search needs)
+    (λ c. search needs)
     loop-again
-    same-length
+    (λ c. search needs)
     returns)

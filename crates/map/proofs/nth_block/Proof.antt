@@ -17,12 +17,6 @@ Inv-loop image links start n block₀ k₀ block k = (k ≤ n) × (block ≡ get
 abbrev μ-loop : tie.MeasureT-loop
 μ-loop image links start n block₀ k₀ block k = n - k
 
-add-k : tie.Need-add-k Inv-loop μ-loop
-add-k c = search needs
-
-loop-less : tie.Need-loop-less Inv-loop μ-loop
-loop-less c = search needs
-
 -- the block in hand is the chain's k-th, so a data block
 inside : (c : tie.At-loop Inv-loop μ-loop) → Data (c .before .before .args .layout) (c .loop .block)
 inside c =
@@ -52,4 +46,4 @@ returns c =
 pub nth-block-spec : {M : Type 1} → statement M
 nth-block-spec =
     tie.close
-    (tie.spec Inv-loop μ-loop loop-holds map-at-requires add-k loop-less loop-again returns)
+    (tie.spec Inv-loop μ-loop loop-holds map-at-requires (λ c. search needs) (λ c. search needs) loop-again returns)

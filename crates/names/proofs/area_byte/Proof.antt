@@ -25,12 +25,6 @@ area-rest l name i n h =
     let e : i ≡ length (map (toDisk l) name) + (i - l .letters) = omega (arith, length-map name (toDisk l)) in
     ap (λ (k : ℕ). getD (areaOf l name) k 0) e ∙ getD-append-add (map (toDisk l) name) (padding l) (i - l .letters) 0
 
-shared-slice-read-disk-byte : tie.Need-shared-slice-read-disk-byte
-shared-slice-read-disk-byte c = search needs
-
-disk-byte-requires : tie.Need-disk-byte-requires
-disk-byte-requires c κs = search needs
-
 returns : tie.Need-returns
 returns c =
     let a = c .before .before .before .before .args in
@@ -51,4 +45,4 @@ returns-2 c =
 pub area-byte-spec : {M : Type 1} → statement M
 area-byte-spec =
     tie.close
-    (tie.spec shared-slice-read-disk-byte disk-byte-requires returns pad-byte-requires returns-2)
+    (tie.spec (λ c. search needs) (λ c κs. search needs) returns pad-byte-requires returns-2)

@@ -22,18 +22,6 @@ abbrev μ-loop : tie.MeasureT-loop
 loop-holds : tie.Need-loop-holds Inv-loop μ-loop
 loop-holds c = (omega arith, splice-none _ _)
 
-area-byte-requires : tie.Need-area-byte-requires Inv-loop μ-loop
-area-byte-requires c κs = search needs
-
-array-write-area : tie.Need-array-write-area Inv-loop μ-loop
-array-write-area c = search needs
-
-add-i : tie.Need-add-i Inv-loop μ-loop
-add-i c = search needs
-
-loop-less : tie.Need-loop-less Inv-loop μ-loop
-loop-less c = search needs
-
 loop-again : tie.Need-loop-again Inv-loop μ-loop
 loop-again c =
     let k = c .before .before .loop in
@@ -59,9 +47,9 @@ area-of-spec =
     Inv-loop
     μ-loop
     loop-holds
-    area-byte-requires
-    array-write-area
-    add-i
-    loop-less
+    (λ c κs. search needs)
+    (λ c. search needs)
+    (λ c. search needs)
+    (λ c. search needs)
     loop-again
     returns)

@@ -7,12 +7,6 @@ use Rattle.names.specs.Akaii.{imageOf}
 use Rattle.names.proofs.ascii_byte.Statement.{statement}
 use Rattle.names.proofs.ascii_byte.Tie as tie
 
-to-ascii-requires : tie.Need-to-ascii-requires
-to-ascii-requires c κs = search needs
-
-image-of-requires : tie.Need-image-of-requires
-image-of-requires c κs = search needs
-
 returns : tie.Need-returns
 unfolding toAscii
 returns c = rw (c .before .before .if1 .taken) (c .image-of .ensures ∙ ap imageOf (c .before .to-ascii .ensures))
@@ -22,4 +16,4 @@ unfolding toAscii
 returns-2 c = rw (c .if1 .left) refl
 
 pub ascii-byte-spec : {M : Type 1} → statement M
-ascii-byte-spec = tie.close (tie.spec to-ascii-requires image-of-requires returns returns-2)
+ascii-byte-spec = tie.close (tie.spec (λ c κs. search needs) (λ c κs. search needs) returns returns-2)

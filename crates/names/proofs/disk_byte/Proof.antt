@@ -7,12 +7,6 @@ use Rattle.names.specs.Akaii.{imageOf}
 use Rattle.names.proofs.disk_byte.Statement.{statement}
 use Rattle.names.proofs.disk_byte.Tie as tie
 
-to-akaii-requires : tie.Need-to-akaii-requires
-to-akaii-requires c κs = search needs
-
-image-of-requires : tie.Need-image-of-requires
-image-of-requires c κs = search needs
-
 returns : tie.Need-returns
 unfolding toDisk
 returns c = rw (c .before .before .if1 .taken) (c .image-of .ensures ∙ ap imageOf (c .before .to-akaii .ensures))
@@ -22,4 +16,4 @@ unfolding toDisk
 returns-2 c = rw (c .if1 .left) refl
 
 pub disk-byte-spec : {M : Type 1} → statement M
-disk-byte-spec = tie.close (tie.spec to-akaii-requires image-of-requires returns returns-2)
+disk-byte-spec = tie.close (tie.spec (λ c κs. search needs) (λ c κs. search needs) returns returns-2)

@@ -6,11 +6,8 @@ use Rattle.names.specs.NameLaws.{akaii-within}
 use Rattle.names.proofs.is_akaii.Statement.{statement}
 use Rattle.names.proofs.is_akaii.Tie as tie
 
-is-within-requires : tie.Need-is-within-requires
-is-within-requires c κs = search needs
-
 returns : tie.Need-returns
 returns c = c .is-within .ensures ∙ akaii-within (c .before .args .number)
 
 pub is-akaii-spec : {M : Type 1} → statement M
-is-akaii-spec = tie.close (tie.spec is-within-requires returns)
+is-akaii-spec = tie.close (tie.spec (λ c κs. search needs) returns)

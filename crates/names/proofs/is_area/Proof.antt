@@ -7,19 +7,13 @@ use Rattle.names.specs.Names.{legalArea}
 use Rattle.names.proofs.is_area.Statement.{statement}
 use Rattle.names.proofs.is_area.Tie as tie
 
-is-front-requires : tie.Need-is-front-requires
-is-front-requires c κs = search needs
-
 returns : tie.Need-returns
 unfolding legalArea
 returns c = rw (sym (c .before .is-front .ensures) ∙ not-true _ (c .if1 .taken)) refl
-
-is-padding-requires : tie.Need-is-padding-requires
-is-padding-requires c κs = search needs
 
 returns-2 : tie.Need-returns-2
 unfolding legalArea
 returns-2 c = rw (sym (c .before .before .is-front .ensures) ∙ not-false _ (c .before .if1 .left)) (c .is-padding .ensures)
 
 pub is-area-spec : {M : Type 1} → statement M
-is-area-spec = tie.close (tie.spec is-front-requires returns is-padding-requires returns-2)
+is-area-spec = tie.close (tie.spec (λ c κs. search needs) returns (λ c κs. search needs) returns-2)

@@ -5,12 +5,9 @@ use Rattle.names.specs.Names.{asciiByte}
 use Rattle.names.proofs.is_ascii.Statement.{statement}
 use Rattle.names.proofs.is_ascii.Tie as tie
 
-is-within-requires : tie.Need-is-within-requires
-is-within-requires c κs = search needs
-
 returns : tie.Need-returns
 unfolding asciiByte
 returns c = c .is-within .ensures
 
 pub is-ascii-spec : {M : Type 1} → statement M
-is-ascii-spec = tie.close (tie.spec is-within-requires returns)
+is-ascii-spec = tie.close (tie.spec (λ c κs. search needs) returns)

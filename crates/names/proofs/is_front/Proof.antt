@@ -24,12 +24,6 @@ abbrev μ-loop : tie.MeasureT-loop
 loop-holds : tie.Need-loop-holds Inv-loop μ-loop
 loop-holds c = (omega arith, refl)
 
-shared-slice-read-is-stored : tie.Need-shared-slice-read-is-stored Inv-loop μ-loop
-shared-slice-read-is-stored c = search needs
-
-is-stored-requires : tie.Need-is-stored-requires Inv-loop μ-loop
-is-stored-requires c κs = search needs
-
 returns : tie.Need-returns Inv-loop μ-loop
 returns c =
     let k = c .before .before .before .before .loop in
@@ -40,12 +34,6 @@ returns c =
     let e : storedByte l (getD (take (l .letters) a) (k .i) 0) ≡ c .before .is-stored .result =
     ap (storedByte l) (getD-take (l .letters) a (k .i) 0 (omega arith)) ∙ sym (c .before .is-stored .ensures) in
     sym (all-of-stop (storedByte l) (take (l .letters) a) (k .i) (omega arith) (e ∙ not-true _ (c .if1 .taken))) ∙ k .inv .1
-
-add-i : tie.Need-add-i Inv-loop μ-loop
-add-i c = search needs
-
-loop-less : tie.Need-loop-less Inv-loop μ-loop
-loop-less c = search needs
 
 loop-again : tie.Need-loop-again Inv-loop μ-loop
 loop-again c =
@@ -74,10 +62,10 @@ is-front-spec =
     Inv-loop
     μ-loop
     loop-holds
-    shared-slice-read-is-stored
-    is-stored-requires
+    (λ c. search needs)
+    (λ c κs. search needs)
     returns
-    add-i
-    loop-less
+    (λ c. search needs)
+    (λ c. search needs)
     loop-again
     returns-2)

@@ -7,18 +7,9 @@ use Rattle.names.specs.Akaii.{hasImage}
 use Rattle.names.proofs.is_given.Statement.{statement}
 use Rattle.names.proofs.is_given.Tie as tie
 
-to-akaii-requires : tie.Need-to-akaii-requires
-to-akaii-requires c κs = search needs
-
-has-image-requires : tie.Need-has-image-requires
-has-image-requires c κs = search needs
-
 returns : tie.Need-returns
 unfolding givenByte
 returns c = rw (c .before .before .if1 .taken) (c .has-image .ensures ∙ ap hasImage (c .before .to-akaii .ensures))
-
-is-stored-requires : tie.Need-is-stored-requires
-is-stored-requires c κs = search needs
 
 returns-2 : tie.Need-returns-2
 unfolding givenByte
@@ -26,4 +17,4 @@ returns-2 c = rw (c .before .if1 .left) (c .is-stored .ensures)
 
 pub is-given-spec : {M : Type 1} → statement M
 is-given-spec =
-    tie.close (tie.spec to-akaii-requires has-image-requires returns is-stored-requires returns-2)
+    tie.close (tie.spec (λ c κs. search needs) (λ c κs. search needs) returns (λ c κs. search needs) returns-2)

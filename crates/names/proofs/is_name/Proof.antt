@@ -31,23 +31,11 @@ loop-holds c =
     let a = c .before .before .args in
     (omega arith, rw (eq-eqb (length (now (a .name))) (a .layout .letters) (c .if1 .left)) refl)
 
-shared-slice-read-is-given : tie.Need-shared-slice-read-is-given Inv-loop μ-loop
-shared-slice-read-is-given c = search needs
-
-is-given-requires : tie.Need-is-given-requires Inv-loop μ-loop
-is-given-requires c κs = search needs
-
 returns-2 : tie.Need-returns-2 Inv-loop μ-loop
 returns-2 c =
     let k = c .before .before .before .before .loop in
     let a = c .before .before .before .before .before .before .before .args in
     sym (all-of-stop (givenByte (a .layout)) (now (a .name)) (k .i) (omega arith) (sym (c .before .is-given .ensures) ∙ not-true _ (c .if2 .taken))) ∙ k .inv .1
-
-add-i : tie.Need-add-i Inv-loop μ-loop
-add-i c = search needs
-
-loop-less : tie.Need-loop-less Inv-loop μ-loop
-loop-less c = search needs
 
 loop-again : tie.Need-loop-again Inv-loop μ-loop
 loop-again c =
@@ -69,10 +57,10 @@ is-name-spec =
     μ-loop
     returns
     loop-holds
-    shared-slice-read-is-given
-    is-given-requires
+    (λ c. search needs)
+    (λ c κs. search needs)
     returns-2
-    add-i
-    loop-less
+    (λ c. search needs)
+    (λ c. search needs)
     loop-again
     returns-3)

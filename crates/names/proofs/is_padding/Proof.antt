@@ -58,9 +58,6 @@ loop-holds c =
     let z : l .letters - l .letters ≡ 0 = omega arith in
     (omega arith, omega (arith, c .before .pre .0 .letters-few), rw z refl)
 
-shared-slice-read-if1 : tie.Need-shared-slice-read-if1 Inv-loop μ-loop
-shared-slice-read-if1 c = search needs
-
 pad-byte-requires : tie.Need-pad-byte-requires Inv-loop μ-loop
 pad-byte-requires c κs = (c .before .before .before .before .pre .0, c .before .before .loop .inv .0, omega arith)
 
@@ -71,12 +68,6 @@ returns c =
     let l = p .args .layout in
     let a = now (p .args .area) in
     sym (rest-stop l (p .pre .0) a (p .pre .1) (k .i) (k .inv .0) (omega arith) (c .before .pad-byte .ensures) (c .if1 .taken)) ∙ k .inv .2
-
-add-i : tie.Need-add-i Inv-loop μ-loop
-add-i c = search needs
-
-loop-less : tie.Need-loop-less Inv-loop μ-loop
-loop-less c = search needs
 
 loop-again : tie.Need-loop-again Inv-loop μ-loop
 loop-again c =
@@ -100,10 +91,10 @@ is-padding-spec =
     Inv-loop
     μ-loop
     loop-holds
-    shared-slice-read-if1
+    (λ c. search needs)
     pad-byte-requires
     returns
-    add-i
-    loop-less
+    (λ c. search needs)
+    (λ c. search needs)
     loop-again
     returns-2)

@@ -5,12 +5,9 @@ use Rattle.names.specs.Names.{storedByte}
 use Rattle.names.proofs.is_stored.Statement.{statement}
 use Rattle.names.proofs.is_stored.Tie as tie
 
-is-within-requires : tie.Need-is-within-requires
-is-within-requires c κs = search needs
-
 returns : tie.Need-returns
 unfolding storedByte
 returns c = c .is-within .ensures
 
 pub is-stored-spec : {M : Type 1} → statement M
-is-stored-spec = tie.close (tie.spec is-within-requires returns)
+is-stored-spec = tie.close (tie.spec (λ c κs. search needs) returns)

@@ -5,12 +5,9 @@ use Rattle.names.specs.Names.{legalType}
 use Rattle.names.proofs.is_type.Statement.{statement}
 use Rattle.names.proofs.is_type.Tie as tie
 
-is-within-requires : tie.Need-is-within-requires
-is-within-requires c κs = search needs
-
 returns : tie.Need-returns
 unfolding legalType
 returns c = c .is-within .ensures
 
 pub is-type-spec : {M : Type 1} → statement M
-is-type-spec = tie.close (tie.spec is-within-requires returns)
+is-type-spec = tie.close (tie.spec (λ c κs. search needs) returns)

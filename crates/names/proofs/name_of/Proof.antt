@@ -33,21 +33,6 @@ abbrev μ-loop : tie.MeasureT-loop
 loop-holds : tie.Need-loop-holds Inv-loop μ-loop
 loop-holds c = (omega arith, splice-none _ _)
 
-shared-slice-read-ascii-byte : tie.Need-shared-slice-read-ascii-byte Inv-loop μ-loop
-shared-slice-read-ascii-byte c = search needs
-
-ascii-byte-requires : tie.Need-ascii-byte-requires Inv-loop μ-loop
-ascii-byte-requires c κs = search needs
-
-array-write-name : tie.Need-array-write-name Inv-loop μ-loop
-array-write-name c = search needs
-
-add-i : tie.Need-add-i Inv-loop μ-loop
-add-i c = search needs
-
-loop-less : tie.Need-loop-less Inv-loop μ-loop
-loop-less c = search needs
-
 loop-again : tie.Need-loop-again Inv-loop μ-loop
 loop-again c =
     let k = c .before .before .before .loop in
@@ -74,10 +59,10 @@ name-of-spec =
     Inv-loop
     μ-loop
     loop-holds
-    shared-slice-read-ascii-byte
-    ascii-byte-requires
-    array-write-name
-    add-i
-    loop-less
+    (λ c. search needs)
+    (λ c κs. search needs)
+    (λ c. search needs)
+    (λ c. search needs)
+    (λ c. search needs)
     loop-again
     returns)

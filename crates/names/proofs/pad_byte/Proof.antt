@@ -25,17 +25,11 @@ pad-last l i h k =
     let e : i - l .letters ≡ length pads = omega (arith, length-replicate {A = ℕ} (15 - l .letters) (l .pad)) in
     rw e (getD-append-seam pads (l .last) [] 0)
 
-cast-result : tie.Need-cast-result
-cast-result c = search needs
-
 returns : tie.Need-returns
 returns c = sym (pad-in (c .before .before .args .layout) (c .before .before .args .i) (c .before .before .pre .1) (omega arith))
-
-cast-result-2 : tie.Need-cast-result-2
-cast-result-2 c = search needs
 
 returns-2 : tie.Need-returns-2
 returns-2 c = sym (pad-last (c .before .before .args .layout) (c .before .before .args .i) (c .before .before .pre .1) (omega arith))
 
 pub pad-byte-spec : {M : Type 1} → statement M
-pad-byte-spec = tie.close (tie.spec cast-result returns cast-result-2 returns-2)
+pad-byte-spec = tie.close (tie.spec (λ c. search needs) returns (λ c. search needs) returns-2)

@@ -8,9 +8,6 @@ use Rattle.laws.specs.Lemmas.Truth.{within-in, within-below, within-above}
 use Rattle.names.proofs.to_akaii.Statement.{statement}
 use Rattle.names.proofs.to_akaii.Tie as tie
 
-sub-t5 : tie.Need-sub-t5
-sub-t5 c = search needs
-
 returns : tie.Need-returns
 unfolding akaiiOf
 returns c = rw (c .match .keys1) refl
@@ -62,7 +59,7 @@ pub to-akaii-spec : {M : Type 1} → statement M
 to-akaii-spec =
     tie.close
     (tie.spec
-    sub-t5
+    (λ c. search needs)
     returns
     returns-2
     returns-3

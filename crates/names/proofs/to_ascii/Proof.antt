@@ -8,12 +8,6 @@ use Rattle.laws.specs.Lemmas.Truth.{within-in, within-above}
 use Rattle.names.proofs.to_ascii.Statement.{statement}
 use Rattle.names.proofs.to_ascii.Tie as tie
 
-add-t4 : tie.Need-add-t4
-add-t4 c = search needs
-
-add-t5 : tie.Need-add-t5
-add-t5 c = search needs
-
 returns : tie.Need-returns
 unfolding asciiOf
 returns c = rw (c .match .keys1) refl
@@ -56,8 +50,8 @@ pub to-ascii-spec : {M : Type 1} → statement M
 to-ascii-spec =
     tie.close
     (tie.spec
-    add-t4
-    add-t5
+    (λ c. search needs)
+    (λ c. search needs)
     returns
     returns-2
     returns-3

@@ -81,24 +81,6 @@ Inv-loop image links start offset out₀ count j₀ block₀ done₀ out j block
 abbrev μ-loop : tie.MeasureT-loop
 μ-loop image links start offset out₀ count j₀ block₀ done₀ out j block done = count - done
 
-sub-least : tie.Need-sub-least Inv-loop μ-loop
-sub-least c = search needs
-
-sub-least-2 : tie.Need-sub-least-2 Inv-loop μ-loop
-sub-least-2 c = search needs
-
-least-requires : tie.Need-least-requires Inv-loop μ-loop
-least-requires c κs = search needs
-
-sub-copy-part : tie.Need-sub-copy-part Inv-loop μ-loop
-sub-copy-part c = search needs
-
-add-done : tie.Need-add-done Inv-loop μ-loop
-add-done c = search needs
-
-loop-less : tie.Need-loop-less Inv-loop μ-loop
-loop-less c = search needs
-
 -- the function's entry and the page, seen from the loop
 abbrev Entry : tie.At-loop Inv-loop μ-loop → tie.Start Inv-loop μ-loop
 Entry c = c .before .before .before .before .before
@@ -218,20 +200,20 @@ page-runs-spec =
     nth-block-requires
     loop-holds
     add-at
-    sub-least
+    (λ c. search needs)
     mul-least
     add-least
-    sub-least-2
-    least-requires
+    (λ c. search needs)
+    (λ c κs. search needs)
     mul-copy-part
     mul-copy-part-2
-    sub-copy-part
+    (λ c. search needs)
     add-copy-part
     copy-part-requires
-    add-done
+    (λ c. search needs)
     map-at-requires
     add-j
-    loop-less
+    (λ c. search needs)
     loop-again
     same-length
     returns-2)

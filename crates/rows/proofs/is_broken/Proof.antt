@@ -6,18 +6,6 @@ use Rattle.rows.specs.Lemmas.Arms.{breaks-by}
 use Rattle.rows.proofs.is_broken.Statement.{statement}
 use Rattle.rows.proofs.is_broken.Tie as tie
 
-figure-requires : tie.Need-figure-requires
-figure-requires c κs = search needs
-
-offset-of-requires : tie.Need-offset-of-requires
-offset-of-requires c κs = search needs
-
-number-requires : tie.Need-number-requires
-number-requires c κs = search needs
-
-is-legal-requires : tie.Need-is-legal-requires
-is-legal-requires c κs = search needs
-
 returns : tie.Need-returns
 returns c = breaks-by _ _ _ _ (c .before .before .before .before .figure .ensures .0) (c .before .before .before .offset-of .ensures .0) (c .before .before .number .ensures .value) (c .before .is-legal .ensures) true (c .if1 .taken)
 
@@ -28,9 +16,9 @@ pub is-broken-spec : {M : Type 1} → statement M
 is-broken-spec =
     tie.close
     (tie.spec
-    figure-requires
-    offset-of-requires
-    number-requires
-    is-legal-requires
+    (λ c κs. search needs)
+    (λ c κs. search needs)
+    (λ c κs. search needs)
+    (λ c κs. search needs)
     returns
     returns-2)

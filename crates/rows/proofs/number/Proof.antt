@@ -7,24 +7,6 @@ use Rattle.blocks.specs.Lemmas.Numbers.{number-one}
 use Rattle.rows.proofs.number.Statement.{statement}
 use Rattle.rows.proofs.number.Tie as tie
 
-enum-told : tie.Need-enum-told
-enum-told c = search needs
-
-byte-requires : tie.Need-byte-requires
-byte-requires c κs = search needs
-
-enum-told-2 : tie.Need-enum-told-2
-enum-told-2 c = search needs
-
-word-requires : tie.Need-word-requires
-word-requires c κs = search needs
-
-enum-told-3 : tie.Need-enum-told-3
-enum-told-3 c = search needs
-
-long-requires : tie.Need-long-requires
-long-requires c κs = search needs
-
 returns : tie.Need-returns
 returns c = read-by _ _ (c .before .enum-told .given .1) (number-one _ _ (c .byte .ensures .0) (c .byte .ensures .1)) (omega arith)
 
@@ -38,12 +20,12 @@ pub number-spec : {M : Type 1} → statement M
 number-spec =
     tie.close
     (tie.spec
-    enum-told
-    byte-requires
-    enum-told-2
-    word-requires
-    enum-told-3
-    long-requires
+    (λ c. search needs)
+    (λ c κs. search needs)
+    (λ c. search needs)
+    (λ c κs. search needs)
+    (λ c. search needs)
+    (λ c κs. search needs)
     returns
     returns-2
     returns-3)

@@ -14,26 +14,11 @@ Inv-loop header base run count j₀ j = Searched (breaks header base run) count 
 abbrev μ-loop : tie.MeasureT-loop
 μ-loop header base run count j₀ j = count - j
 
-figure-requires : tie.Need-figure-requires Inv-loop μ-loop
-figure-requires c κs = search needs
-
 loop-holds : tie.Need-loop-holds Inv-loop μ-loop
 loop-holds c = searched-none _ _
 
-is-broken-requires : tie.Need-is-broken-requires Inv-loop μ-loop
-is-broken-requires c κs = search needs
-
-place-of-requires : tie.Need-place-of-requires Inv-loop μ-loop
-place-of-requires c κs = search needs
-
 returns : tie.Need-returns Inv-loop μ-loop
 returns c = run-stop _ _ _ (c .before .before .before .before .before .figure .ensures .0) (searched-found _ _ _ (c .before .before .before .before .loop .inv) (c .before .before .before .loop-test .taken) (c .before .before .is-broken .ensures) (c .before .if1 .taken)) (c .place-of .ensures)
-
-add-j : tie.Need-add-j Inv-loop μ-loop
-add-j c = search needs
-
-loop-less : tie.Need-loop-less Inv-loop μ-loop
-loop-less c = search needs
 
 loop-again : tie.Need-loop-again Inv-loop μ-loop
 loop-again c = searched-more _ _ _ (c .before .before .before .loop .inv) (c .before .before .loop-test .taken) (c .before .is-broken .ensures) (c .if1 .left)
@@ -47,12 +32,12 @@ run-fault-spec =
     (tie.spec
     Inv-loop
     μ-loop
-    figure-requires
+    (λ c κs. search needs)
     loop-holds
-    is-broken-requires
-    place-of-requires
+    (λ c κs. search needs)
+    (λ c κs. search needs)
     returns
-    add-j
-    loop-less
+    (λ c. search needs)
+    (λ c. search needs)
     loop-again
     returns-2)

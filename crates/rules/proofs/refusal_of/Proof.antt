@@ -6,12 +6,6 @@ use Rattle.rules.specs.Check.{refusalOf}
 use Rattle.rules.proofs.refusal_of.Statement.{statement}
 use Rattle.rules.proofs.refusal_of.Tie as tie
 
-enum-told : tie.Need-enum-told
-enum-told c = search needs
-
-enum-known-checked : tie.Need-enum-known-checked
-enum-known-checked c = search needs
-
 returns : tie.Need-returns
 returns c = ap refusalOf (sym (c .enum-told .given .1))
 
@@ -19,4 +13,4 @@ returns-2 : tie.Need-returns-2
 returns-2 c = ap refusalOf (sym (c .before .checked .given .1))
 
 pub refusal-of-spec : {M : Type 1} → statement M
-refusal-of-spec = tie.close (tie.spec enum-told enum-known-checked returns returns-2)
+refusal-of-spec = tie.close (tie.spec (λ c. search needs) (λ c. search needs) returns returns-2)

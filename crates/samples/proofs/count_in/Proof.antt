@@ -10,9 +10,6 @@ use Rattle.samples.specs.Lemmas.Steps.{count-inside}
 use Rattle.samples.proofs.count_in.Statement.{statement}
 use Rattle.samples.proofs.count_in.Tie as tie
 
-count-offset-requires : tie.Need-count-offset-requires
-count-offset-requires c κs = search needs
-
 number4-requires : tie.Need-number4-requires
 number4-requires c κs = omega (arith, count-inside (c .before .before .args .sampler))
 
@@ -20,4 +17,4 @@ returns : tie.Need-returns
 returns c = subst (λ (at : ℕ). Number 4 (bytes (c .before .before .before .args .header .now)) at (c .number4 .result)) (c .before .count-offset .ensures) (c .number4 .ensures)
 
 pub count-in-spec : {M : Type 1} → statement M
-count-in-spec = tie.close (tie.spec count-offset-requires number4-requires returns)
+count-in-spec = tie.close (tie.spec (λ c κs. search needs) number4-requires returns)

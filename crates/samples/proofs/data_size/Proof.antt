@@ -6,18 +6,6 @@ use borrow.Author.Needs.{needs}
 use Rattle.samples.proofs.data_size.Statement.{statement}
 use Rattle.samples.proofs.data_size.Tie as tie
 
-enum-told : tie.Need-enum-told
-enum-told c = search needs
-
-add-result : tie.Need-add-result
-add-result c = search needs
-
-enum-told-2 : tie.Need-enum-told-2
-enum-told-2 c = search needs
-
-mul-result : tie.Need-mul-result
-mul-result c = search needs
-
 returns : tie.Need-returns
 returns c = (rw (c .enum-told .given .1) refl, omega arith)
 
@@ -25,4 +13,4 @@ returns-2 : tie.Need-returns-2
 returns-2 c = (rw (c .enum-told2 .given .1) refl, omega arith)
 
 pub data-size-spec : {M : Type 1} → statement M
-data-size-spec = tie.close (tie.spec enum-told add-result enum-told-2 mul-result returns returns-2)
+data-size-spec = tie.close (tie.spec (λ c. search needs) (λ c. search needs) (λ c. search needs) (λ c. search needs) returns returns-2)

@@ -5,35 +5,11 @@ use Rattle.samples.specs.Lemmas.Steps.{file-short, header-length, file-h
 use Rattle.samples.proofs.file_fault.Statement.{statement}
 use Rattle.samples.proofs.file_fault.Tie as tie
 
-header-size-requires : tie.Need-header-size-requires
-header-size-requires c κs = search needs
-
 returns : tie.Need-returns
 returns c = file-short (c .before .before .before .args .sampler) (c .before .before .before .args .file .now) (c .before .header-size .ensures .0) (c .if1 .taken)
 
-sub-header : tie.Need-sub-header
-sub-header c = search needs
-
-part-header-start : tie.Need-part-header-start
-part-header-start c = search needs
-
-part-header-end : tie.Need-part-header-end
-part-header-end c = search needs
-
 count-in-requires : tie.Need-count-in-requires
 count-in-requires c κs = header-length (c .before .before .before .before .args .sampler) (c .before .before .before .before .args .file .now) (c .before .before .header-size .ensures .0) (c .before .if1 .left)
-
-data-size-requires : tie.Need-data-size-requires
-data-size-requires c κs = search needs
-
-add-due : tie.Need-add-due
-add-due c = search needs
-
-is-right-requires : tie.Need-is-right-requires
-is-right-requires c κs = search needs
-
-head-fault-requires : tie.Need-head-fault-requires
-head-fault-requires c κs = search needs
 
 returns-2 : tie.Need-returns-2
 returns-2 c =
@@ -44,14 +20,14 @@ pub file-fault-spec : {M : Type 1} → statement M
 file-fault-spec =
     tie.close
     (tie.spec
-    header-size-requires
+    (λ c κs. search needs)
     returns
-    sub-header
-    part-header-start
-    part-header-end
+    (λ c. search needs)
+    (λ c. search needs)
+    (λ c. search needs)
     count-in-requires
-    data-size-requires
-    add-due
-    is-right-requires
-    head-fault-requires
+    (λ c κs. search needs)
+    (λ c. search needs)
+    (λ c κs. search needs)
+    (λ c κs. search needs)
     returns-2)

@@ -4,26 +4,14 @@ use borrow.Author.Needs.{needs}
 use Rattle.samples.proofs.fill.Statement.{statement}
 use Rattle.samples.proofs.fill.Tie as tie
 
-enum-told : tie.Need-enum-told
-enum-told c = search needs
-
 fill900-requires : tie.Need-fill900-requires
 fill900-requires c κs = (rw (c .before .enum-told .given .1) at (c .before .before .before .before .pre .0), c .before .before .before .before .pre .1)
-
-enum-told-2 : tie.Need-enum-told-2
-enum-told-2 c = search needs
 
 fill1000-requires : tie.Need-fill1000-requires
 fill1000-requires c κs = (rw (c .before .enum-told2 .given .1) at (c .before .before .before .before .pre .0), c .before .before .before .before .pre .1)
 
-same-length : tie.Need-same-length
-same-length c = search needs
-
 returns : tie.Need-returns
 returns c = rw (c .before .before .before .enum-told .given .1) (c .before .fill900 .ensures)
-
-same-length-2 : tie.Need-same-length-2
-same-length-2 c = search needs
 
 returns-2 : tie.Need-returns-2
 returns-2 c = rw (c .before .before .before .enum-told2 .given .1) (c .before .fill1000 .ensures)
@@ -32,11 +20,11 @@ pub fill-spec : {M : Type 1} → statement M
 fill-spec =
     tie.close
     (tie.spec
-    enum-told
+    (λ c. search needs)
     fill900-requires
-    enum-told-2
+    (λ c. search needs)
     fill1000-requires
-    same-length
+    (λ c. search needs)
     returns
-    same-length-2
+    (λ c. search needs)
     returns-2)

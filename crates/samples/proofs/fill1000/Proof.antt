@@ -26,29 +26,8 @@ abbrev μ-loop : tie.MeasureT-loop
 loop-holds : tie.Need-loop-holds Inv-loop μ-loop
 loop-holds c = written-none _ _ _ _ _
 
-mul-number2 : tie.Need-mul-number2 Inv-loop μ-loop
-mul-number2 c = search needs
-
-number2-requires : tie.Need-number2-requires Inv-loop μ-loop
-number2-requires c κs = search needs
-
-cast-word16 : tie.Need-cast-word16 Inv-loop μ-loop
-cast-word16 c = search needs
-
-word16-requires : tie.Need-word16-requires Inv-loop μ-loop
-word16-requires c κs = search needs
-
-mul-word : tie.Need-mul-word Inv-loop μ-loop
-mul-word c = search needs
-
 slice-set-from-word : tie.Need-slice-set-from-word Inv-loop μ-loop
 slice-set-from-word c = let e = c .before .before .before .loop .inv .long in omega arith
-
-add-i : tie.Need-add-i Inv-loop μ-loop
-add-i c = search needs
-
-loop-less : tie.Need-loop-less Inv-loop μ-loop
-loop-less c = search needs
 
 loop-again : tie.Need-loop-again Inv-loop μ-loop
 loop-again c =
@@ -73,14 +52,14 @@ fill1000-spec =
     Inv-loop
     μ-loop
     loop-holds
-    mul-number2
-    number2-requires
-    cast-word16
-    word16-requires
-    mul-word
+    (λ c. search needs)
+    (λ c κs. search needs)
+    (λ c. search needs)
+    (λ c κs. search needs)
+    (λ c. search needs)
     slice-set-from-word
-    add-i
-    loop-less
+    (λ c. search needs)
+    (λ c. search needs)
     loop-again
     same-length
     returns)

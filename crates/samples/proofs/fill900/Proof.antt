@@ -6,19 +6,10 @@ use Rattle.samples.specs.Lemmas.Data.{unpacked-halves}
 use Rattle.samples.proofs.fill900.Statement.{statement}
 use Rattle.samples.proofs.fill900.Tie as tie
 
-fill-first-requires : tie.Need-fill-first-requires
-fill-first-requires c κs = search needs
-
-fill-second-requires : tie.Need-fill-second-requires
-fill-second-requires c κs = search needs
-
-same-length : tie.Need-same-length
-same-length c = search needs
-
 returns : tie.Need-returns
 returns c =
     let a = c .before .before .before .before .before .before .before .args in
     unpacked-halves (bytes (a .source .now)) (a .count) (a .words .now) (c .before .before .before .before .fill-first .ensures) (c .before .fill-second .ensures)
 
 pub fill900-spec : {M : Type 1} → statement M
-fill900-spec = tie.close (tie.spec fill-first-requires fill-second-requires same-length returns)
+fill900-spec = tie.close (tie.spec (λ c κs. search needs) (λ c κs. search needs) (λ c. search needs) returns)

@@ -25,29 +25,8 @@ abbrev μ-loop : tie.MeasureT-loop
 loop-holds : tie.Need-loop-holds Inv-loop μ-loop
 loop-holds c = written-none _ _ _ _ _
 
-mul-number2 : tie.Need-mul-number2 Inv-loop μ-loop
-mul-number2 c = search needs
-
-number2-requires : tie.Need-number2-requires Inv-loop μ-loop
-number2-requires c κs = search needs
-
-cast-first-word : tie.Need-cast-first-word Inv-loop μ-loop
-cast-first-word c = search needs
-
-first-word-requires : tie.Need-first-word-requires Inv-loop μ-loop
-first-word-requires c κs = search needs
-
-mul-word : tie.Need-mul-word Inv-loop μ-loop
-mul-word c = search needs
-
 slice-set-from-word : tie.Need-slice-set-from-word Inv-loop μ-loop
 slice-set-from-word c = let e = c .before .before .before .loop .inv .long in omega arith
-
-add-i : tie.Need-add-i Inv-loop μ-loop
-add-i c = search needs
-
-loop-less : tie.Need-loop-less Inv-loop μ-loop
-loop-less c = search needs
 
 loop-again : tie.Need-loop-again Inv-loop μ-loop
 loop-again c =
@@ -71,14 +50,14 @@ fill-first-spec =
     Inv-loop
     μ-loop
     loop-holds
-    mul-number2
-    number2-requires
-    cast-first-word
-    first-word-requires
-    mul-word
+    (λ c. search needs)
+    (λ c κs. search needs)
+    (λ c. search needs)
+    (λ c κs. search needs)
+    (λ c. search needs)
     slice-set-from-word
-    add-i
-    loop-less
+    (λ c. search needs)
+    (λ c. search needs)
     loop-again
     same-length
     returns)

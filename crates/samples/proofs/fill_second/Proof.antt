@@ -24,41 +24,8 @@ abbrev μ-loop : tie.MeasureT-loop
 loop-holds : tie.Need-loop-holds Inv-loop μ-loop
 loop-holds c = written-none _ _ _ _ _
 
-mul-second-word : tie.Need-mul-second-word Inv-loop μ-loop
-mul-second-word c = search needs
-
-add-second-word : tie.Need-add-second-word Inv-loop μ-loop
-add-second-word c = search needs
-
-shared-slice-read-second-word : tie.Need-shared-slice-read-second-word Inv-loop μ-loop
-shared-slice-read-second-word c = search needs
-
-mul-number2 : tie.Need-mul-number2 Inv-loop μ-loop
-mul-number2 c = search needs
-
-number2-requires : tie.Need-number2-requires Inv-loop μ-loop
-number2-requires c κs = search needs
-
-cast-second-word : tie.Need-cast-second-word Inv-loop μ-loop
-cast-second-word c = search needs
-
-second-word-requires : tie.Need-second-word-requires Inv-loop μ-loop
-second-word-requires c κs = search needs
-
-add-word : tie.Need-add-word Inv-loop μ-loop
-add-word c = search needs
-
-mul-word : tie.Need-mul-word Inv-loop μ-loop
-mul-word c = search needs
-
 slice-set-from-word : tie.Need-slice-set-from-word Inv-loop μ-loop
 slice-set-from-word c = let e = c .before .before .before .before .loop .inv .long in omega arith
-
-add-i : tie.Need-add-i Inv-loop μ-loop
-add-i c = search needs
-
-loop-less : tie.Need-loop-less Inv-loop μ-loop
-loop-less c = search needs
 
 loop-again : tie.Need-loop-again Inv-loop μ-loop
 loop-again c =
@@ -82,18 +49,18 @@ fill-second-spec =
     Inv-loop
     μ-loop
     loop-holds
-    mul-second-word
-    add-second-word
-    shared-slice-read-second-word
-    mul-number2
-    number2-requires
-    cast-second-word
-    second-word-requires
-    add-word
-    mul-word
+    (λ c. search needs)
+    (λ c. search needs)
+    (λ c. search needs)
+    (λ c. search needs)
+    (λ c κs. search needs)
+    (λ c. search needs)
+    (λ c κs. search needs)
+    (λ c. search needs)
+    (λ c. search needs)
     slice-set-from-word
-    add-i
-    loop-less
+    (λ c. search needs)
+    (λ c. search needs)
     loop-again
     same-length
     returns)

@@ -5,21 +5,12 @@ use borrow.Author.Needs.{needs}
 use Rattle.samples.proofs.head_fault.Statement.{statement}
 use Rattle.samples.proofs.head_fault.Tie as tie
 
-table-of-requires : tie.Need-table-of-requires
-table-of-requires c κs = search needs
-
-fault-requires : tie.Need-fault-requires
-fault-requires c κs = search needs
-
 returns : tie.Need-returns
 returns c = head-right (c .before .before .before .before .args .sampler) (c .before .before .before .before .args .header .now) (c .before .before .if1 .taken) (c .before .table-of .ensures) (c .fault .ensures)
-
-count-offset-requires : tie.Need-count-offset-requires
-count-offset-requires c κs = search needs
 
 returns-2 : tie.Need-returns-2
 returns-2 c = head-wrong (c .before .before .before .args .sampler) (c .before .before .before .args .header .now) (c .before .if1 .left) (c .count-offset .ensures)
 
 pub head-fault-spec : {M : Type 1} → statement M
 head-fault-spec =
-    tie.close (tie.spec table-of-requires fault-requires returns count-offset-requires returns-2)
+    tie.close (tie.spec (λ c κs. search needs) (λ c κs. search needs) returns (λ c κs. search needs) returns-2)

@@ -6,20 +6,11 @@ use Rattle.samples.specs.Lemmas.Steps.{header-size, header-head}
 use Rattle.samples.proofs.header_fault.Statement.{statement}
 use Rattle.samples.proofs.header_fault.Tie as tie
 
-header-size-requires : tie.Need-header-size-requires
-header-size-requires c κs = search needs
-
 returns : tie.Need-returns
 returns c = header-size (c .before .before .before .args .sampler) (c .before .before .before .args .header .now) (c .before .before .before .args .given) (c .before .header-size .ensures .0) (c .if1 .taken)
 
 count-in-requires : tie.Need-count-in-requires
 count-in-requires c κs = c .if1 .left ∙ c .before .header-size .ensures .0
-
-is-right-requires : tie.Need-is-right-requires
-is-right-requires c κs = search needs
-
-head-fault-requires : tie.Need-head-fault-requires
-head-fault-requires c κs = search needs
 
 returns-2 : tie.Need-returns-2
 returns-2 c =
@@ -30,9 +21,9 @@ pub header-fault-spec : {M : Type 1} → statement M
 header-fault-spec =
     tie.close
     (tie.spec
-    header-size-requires
+    (λ c κs. search needs)
     returns
     count-in-requires
-    is-right-requires
-    head-fault-requires
+    (λ c κs. search needs)
+    (λ c κs. search needs)
     returns-2)

@@ -6,14 +6,8 @@ use Rattle.words.specs.Lemmas.Signed.{read-back}
 use Rattle.samples.proofs.high_byte.Statement.{statement}
 use Rattle.samples.proofs.high_byte.Tie as tie
 
-bits12-requires : tie.Need-bits12-requires
-bits12-requires c κs = search needs
-
-cast-result : tie.Need-cast-result
-cast-result c = search needs
-
 returns : tie.Need-returns
 returns c = rw (c .bits12 .ensures .0, read-back (c .before .args .word) (c .before .fits .word)) refl
 
 pub high-byte-spec : {M : Type 1} → statement M
-high-byte-spec = tie.close (tie.spec bits12-requires cast-result returns)
+high-byte-spec = tie.close (tie.spec (λ c κs. search needs) (λ c. search needs) returns)

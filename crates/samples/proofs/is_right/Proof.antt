@@ -5,9 +5,6 @@ use Rattle.samples.specs.Lemmas.Steps.{right-whole, right-odd}
 use Rattle.samples.proofs.is_right.Statement.{statement}
 use Rattle.samples.proofs.is_right.Tie as tie
 
-is-whole-requires : tie.Need-is-whole-requires
-is-whole-requires c κs = search needs
-
 returns : tie.Need-returns
 returns c = right-whole (c .before .before .args .sampler) (c .before .before .args .count) _ (c .before .is-whole .ensures) (c .if1 .taken)
 
@@ -15,4 +12,4 @@ returns-2 : tie.Need-returns-2
 returns-2 c = right-odd (c .before .before .args .sampler) (c .before .before .args .count) _ (c .before .is-whole .ensures) (c .if1 .left)
 
 pub is-right-spec : {M : Type 1} → statement M
-is-right-spec = tie.close (tie.spec is-whole-requires returns returns-2)
+is-right-spec = tie.close (tie.spec (λ c κs. search needs) returns returns-2)

@@ -22,21 +22,6 @@ abbrev μ-loop : tie.MeasureT-loop
 loop-holds : tie.Need-loop-holds Inv-loop μ-loop
 loop-holds c = searched-none _ _
 
-mul-is-short : tie.Need-mul-is-short Inv-loop μ-loop
-mul-is-short c = search needs
-
-shared-slice-copy-out-is-short : tie.Need-shared-slice-copy-out-is-short Inv-loop μ-loop
-shared-slice-copy-out-is-short c = search needs
-
-is-short-requires : tie.Need-is-short-requires Inv-loop μ-loop
-is-short-requires c κs = search needs
-
-add-i : tie.Need-add-i Inv-loop μ-loop
-add-i c = search needs
-
-loop-less : tie.Need-loop-less Inv-loop μ-loop
-loop-less c = search needs
-
 loop-again : tie.Need-loop-again Inv-loop μ-loop
 loop-again c =
     let words = c .before .before .before .before .before .args .words .now in
@@ -61,11 +46,11 @@ lowest-outside-spec =
     Inv-loop
     μ-loop
     loop-holds
-    mul-is-short
-    shared-slice-copy-out-is-short
-    is-short-requires
-    add-i
-    loop-less
+    (λ c. search needs)
+    (λ c. search needs)
+    (λ c κs. search needs)
+    (λ c. search needs)
+    (λ c. search needs)
     loop-again
     returns
     returns-2)

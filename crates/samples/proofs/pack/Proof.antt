@@ -23,45 +23,18 @@ ready c = record {
   rest-is = c .data-size .ensures .0;
 }
 
-header-fault-requires : tie.Need-header-fault-requires
-header-fault-requires c κs = search needs
-
-enum-known-fault : tie.Need-enum-known-fault
-enum-known-fault c = search needs
-
 returns : tie.Need-returns
 returns c =
     let a = c .before .before .before .before .before .before .args in
     pack-refused (a .sampler) (a .header .now) (a .words .now) (a .out .now) (c .before .before .before .header-fault .ensures) (c .before .fault .given .1)
-
-enum-told : tie.Need-enum-told
-enum-told c = search needs
-
-range-fault-requires : tie.Need-range-fault-requires
-range-fault-requires c κs = search needs
-
-enum-known-outside : tie.Need-enum-known-outside
-enum-known-outside c = search needs
 
 returns-2 : tie.Need-returns-2
 returns-2 c =
     let a = c .before .before .before .before .before .before .before .before .before .args in
     pack-outside (a .sampler) (a .header .now) (a .words .now) (a .out .now) (c .before .before .before .before .before .before .header-fault .ensures) (c .before .before .before .before .enum-told .given .1) (c .before .before .before .range-fault .ensures) (c .before .outside .given .1)
 
-enum-told-2 : tie.Need-enum-told-2
-enum-told-2 c = search needs
-
-header-size-requires : tie.Need-header-size-requires
-header-size-requires c κs = search needs
-
 count-in-requires : tie.Need-count-in-requires
 count-in-requires c κs = header-accepted _ _ _ .0 (sym (c .before .before .before .before .before .before .header-fault .ensures) ∙ c .before .before .before .before .enum-told .given .1) .0 .size
-
-data-size-requires : tie.Need-data-size-requires
-data-size-requires c κs = search needs
-
-add-due : tie.Need-add-due
-add-due c = search needs
 
 returns-3 : tie.Need-returns-3
 returns-3 c =
@@ -81,9 +54,6 @@ store-requires c κs =
     let e = ready-rest (a .sampler) (a .header .now) (a .words .now) (a .out .now) (ready (c .before .before .before .before .before .before)) in
     omega (arith, ap length (c .before .before .before .copy-part .ensures), length-splice (a .out .now) 0 (part (a .header .now) 0 size))
 
-same-length : tie.Need-same-length
-same-length c = search needs
-
 returns-4 : tie.Need-returns-4
 returns-4 c =
     let a = c .before .before .before .before .before .before .before .before .before .before .before .before .before .before .before .before .before .before .before .before .args in
@@ -93,20 +63,20 @@ pub pack-spec : {M : Type 1} → statement M
 pack-spec =
     tie.close
     (tie.spec
-    header-fault-requires
-    enum-known-fault
+    (λ c κs. search needs)
+    (λ c. search needs)
     returns
-    enum-told
-    range-fault-requires
-    enum-known-outside
+    (λ c. search needs)
+    (λ c κs. search needs)
+    (λ c. search needs)
     returns-2
-    enum-told-2
-    header-size-requires
+    (λ c. search needs)
+    (λ c κs. search needs)
     count-in-requires
-    data-size-requires
-    add-due
+    (λ c κs. search needs)
+    (λ c. search needs)
     returns-3
     copy-part-requires
     store-requires
-    same-length
+    (λ c. search needs)
     returns-4)

@@ -6,20 +6,8 @@ use Rattle.samples.specs.Lemmas.Steps.{range-short}
 use Rattle.samples.proofs.range_fault.Statement.{statement}
 use Rattle.samples.proofs.range_fault.Tie as tie
 
-enum-told : tie.Need-enum-told
-enum-told c = search needs
-
-are-short-requires : tie.Need-are-short-requires
-are-short-requires c κs = search needs
-
 returns : tie.Need-returns
 returns c = range-short (c .before .before .before .before .args .words .now) (c .before .before .enum-told .given .1) (c .before .are-short .ensures) (c .if1 .taken)
-
-lowest-outside-requires : tie.Need-lowest-outside-requires
-lowest-outside-requires c κs = search needs
-
-enum-told-2 : tie.Need-enum-told-2
-enum-told-2 c = search needs
 
 returns-2 : tie.Need-returns-2
 returns-2 c = rw (c .before .before .before .enum-told .given .1) (c .lowest-outside .ensures)
@@ -31,10 +19,10 @@ pub range-fault-spec : {M : Type 1} → statement M
 range-fault-spec =
     tie.close
     (tie.spec
-    enum-told
-    are-short-requires
+    (λ c. search needs)
+    (λ c κs. search needs)
     returns
-    lowest-outside-requires
-    enum-told-2
+    (λ c κs. search needs)
+    (λ c. search needs)
     returns-2
     returns-3)

@@ -25,32 +25,8 @@ abbrev μ-loop : tie.MeasureT-loop
 loop-holds : tie.Need-loop-holds Inv-loop μ-loop
 loop-holds c = written-none _ _ _ _ _
 
-mul-store2 : tie.Need-mul-store2 Inv-loop μ-loop
-mul-store2 c = search needs
-
-add-store2 : tie.Need-add-store2 Inv-loop μ-loop
-add-store2 c = search needs
-
-mul-bits16 : tie.Need-mul-bits16 Inv-loop μ-loop
-mul-bits16 c = search needs
-
-shared-slice-copy-out-bits16 : tie.Need-shared-slice-copy-out-bits16 Inv-loop μ-loop
-shared-slice-copy-out-bits16 c = search needs
-
-bits16-requires : tie.Need-bits16-requires Inv-loop μ-loop
-bits16-requires c κs = search needs
-
-cast-store2 : tie.Need-cast-store2 Inv-loop μ-loop
-cast-store2 c = search needs
-
 store2-requires : tie.Need-store2-requires Inv-loop μ-loop
 store2-requires c κs = let e = c .before .before .before .before .loop .inv .long in omega arith
-
-add-i : tie.Need-add-i Inv-loop μ-loop
-add-i c = search needs
-
-loop-less : tie.Need-loop-less Inv-loop μ-loop
-loop-less c = search needs
 
 loop-again : tie.Need-loop-again Inv-loop μ-loop
 unfolding splice
@@ -76,15 +52,15 @@ store1000-spec =
     Inv-loop
     μ-loop
     loop-holds
-    mul-store2
-    add-store2
-    mul-bits16
-    shared-slice-copy-out-bits16
-    bits16-requires
-    cast-store2
+    (λ c. search needs)
+    (λ c. search needs)
+    (λ c. search needs)
+    (λ c. search needs)
+    (λ c κs. search needs)
+    (λ c. search needs)
     store2-requires
-    add-i
-    loop-less
+    (λ c. search needs)
+    (λ c. search needs)
     loop-again
     same-length
     returns)

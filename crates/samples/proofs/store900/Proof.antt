@@ -5,21 +5,6 @@ use Rattle.samples.specs.Lemmas.Data.{packed-halves}
 use Rattle.samples.proofs.store900.Statement.{statement}
 use Rattle.samples.proofs.store900.Tie as tie
 
-store-pairs-requires : tie.Need-store-pairs-requires
-store-pairs-requires c κs = search needs
-
-mul-store-uppers : tie.Need-mul-store-uppers
-mul-store-uppers c = search needs
-
-add-store-uppers : tie.Need-add-store-uppers
-add-store-uppers c = search needs
-
-store-uppers-requires : tie.Need-store-uppers-requires
-store-uppers-requires c κs = search needs
-
-same-length : tie.Need-same-length
-same-length c = search needs
-
 returns : tie.Need-returns
 returns c =
     let a = c .before .before .before .before .before .before .before .before .before .args in
@@ -29,9 +14,9 @@ pub store900-spec : {M : Type 1} → statement M
 store900-spec =
     tie.close
     (tie.spec
-    store-pairs-requires
-    mul-store-uppers
-    add-store-uppers
-    store-uppers-requires
-    same-length
+    (λ c κs. search needs)
+    (λ c. search needs)
+    (λ c. search needs)
+    (λ c κs. search needs)
+    (λ c. search needs)
     returns)

@@ -22,59 +22,11 @@ abbrev μ-loop : tie.MeasureT-loop
 loop-holds : tie.Need-loop-holds Inv-loop μ-loop
 loop-holds c = written-none _ _ _ _ _
 
-mul-low-byte : tie.Need-mul-low-byte Inv-loop μ-loop
-mul-low-byte c = search needs
-
-shared-slice-copy-out-low-byte : tie.Need-shared-slice-copy-out-low-byte Inv-loop μ-loop
-shared-slice-copy-out-low-byte c = search needs
-
-add-low-byte : tie.Need-add-low-byte Inv-loop μ-loop
-add-low-byte c = search needs
-
-mul-low-byte-2 : tie.Need-mul-low-byte-2 Inv-loop μ-loop
-mul-low-byte-2 c = search needs
-
-shared-slice-copy-out-low-byte-2 : tie.Need-shared-slice-copy-out-low-byte-2 Inv-loop μ-loop
-shared-slice-copy-out-low-byte-2 c = search needs
-
-low-byte-requires : tie.Need-low-byte-requires Inv-loop μ-loop
-low-byte-requires c κs = search needs
-
-mul-out : tie.Need-mul-out Inv-loop μ-loop
-mul-out c = search needs
-
-add-out : tie.Need-add-out Inv-loop μ-loop
-add-out c = search needs
-
 slice-write-out : tie.Need-slice-write-out Inv-loop μ-loop
 slice-write-out c = let e = c .before .before .before .before .loop .inv .long in omega arith
 
-mul-high-byte : tie.Need-mul-high-byte Inv-loop μ-loop
-mul-high-byte c = search needs
-
-shared-slice-copy-out-high-byte : tie.Need-shared-slice-copy-out-high-byte Inv-loop μ-loop
-shared-slice-copy-out-high-byte c = search needs
-
-high-byte-requires : tie.Need-high-byte-requires Inv-loop μ-loop
-high-byte-requires c κs = search needs
-
-mul-out-2 : tie.Need-mul-out-2 Inv-loop μ-loop
-mul-out-2 c = search needs
-
-add-out-2 : tie.Need-add-out-2 Inv-loop μ-loop
-add-out-2 c = search needs
-
-add-out-3 : tie.Need-add-out-3 Inv-loop μ-loop
-add-out-3 c = search needs
-
 slice-write-out-2 : tie.Need-slice-write-out-2 Inv-loop μ-loop
 slice-write-out-2 c = let e = c .before .before .before .before .before .before .loop .inv .long in simp length-set (omega arith)
-
-add-i : tie.Need-add-i Inv-loop μ-loop
-add-i c = search needs
-
-loop-less : tie.Need-loop-less Inv-loop μ-loop
-loop-less c = search needs
 
 loop-again : tie.Need-loop-again Inv-loop μ-loop
 loop-again c =
@@ -100,24 +52,24 @@ store-pairs-spec =
     Inv-loop
     μ-loop
     loop-holds
-    mul-low-byte
-    shared-slice-copy-out-low-byte
-    add-low-byte
-    mul-low-byte-2
-    shared-slice-copy-out-low-byte-2
-    low-byte-requires
-    mul-out
-    add-out
+    (λ c. search needs)
+    (λ c. search needs)
+    (λ c. search needs)
+    (λ c. search needs)
+    (λ c. search needs)
+    (λ c κs. search needs)
+    (λ c. search needs)
+    (λ c. search needs)
     slice-write-out
-    mul-high-byte
-    shared-slice-copy-out-high-byte
-    high-byte-requires
-    mul-out-2
-    add-out-2
-    add-out-3
+    (λ c. search needs)
+    (λ c. search needs)
+    (λ c κs. search needs)
+    (λ c. search needs)
+    (λ c. search needs)
+    (λ c. search needs)
     slice-write-out-2
-    add-i
-    loop-less
+    (λ c. search needs)
+    (λ c. search needs)
     loop-again
     same-length
     returns)

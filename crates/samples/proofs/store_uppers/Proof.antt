@@ -23,29 +23,8 @@ abbrev μ-loop : tie.MeasureT-loop
 loop-holds : tie.Need-loop-holds Inv-loop μ-loop
 loop-holds c = written-none _ _ _ _ _
 
-add-high-byte : tie.Need-add-high-byte Inv-loop μ-loop
-add-high-byte c = search needs
-
-mul-high-byte : tie.Need-mul-high-byte Inv-loop μ-loop
-mul-high-byte c = search needs
-
-shared-slice-copy-out-high-byte : tie.Need-shared-slice-copy-out-high-byte Inv-loop μ-loop
-shared-slice-copy-out-high-byte c = search needs
-
-high-byte-requires : tie.Need-high-byte-requires Inv-loop μ-loop
-high-byte-requires c κs = search needs
-
-add-out : tie.Need-add-out Inv-loop μ-loop
-add-out c = search needs
-
 slice-write-out : tie.Need-slice-write-out Inv-loop μ-loop
 slice-write-out c = let e = c .before .before .before .loop .inv .long in omega arith
-
-add-i : tie.Need-add-i Inv-loop μ-loop
-add-i c = search needs
-
-loop-less : tie.Need-loop-less Inv-loop μ-loop
-loop-less c = search needs
 
 loop-again : tie.Need-loop-again Inv-loop μ-loop
 loop-again c =
@@ -71,14 +50,14 @@ store-uppers-spec =
     Inv-loop
     μ-loop
     loop-holds
-    add-high-byte
-    mul-high-byte
-    shared-slice-copy-out-high-byte
-    high-byte-requires
-    add-out
+    (λ c. search needs)
+    (λ c. search needs)
+    (λ c. search needs)
+    (λ c κs. search needs)
+    (λ c. search needs)
     slice-write-out
-    add-i
-    loop-less
+    (λ c. search needs)
+    (λ c. search needs)
     loop-again
     same-length
     returns)

@@ -11,26 +11,8 @@ use Rattle.samples.proofs.unpack.Tie as tie
 opened : (c : tie.After-header-size) → let a = c .before .before .before .before .before .args in Opened (a .sampler) (a .file .now) (c .header-size .result)
 opened c = record { fault = sym (c .before .before .before .file-fault .ensures) ∙ c .before .enum-told .given .1; size-is = c .header-size .ensures .0 }
 
-file-fault-requires : tie.Need-file-fault-requires
-file-fault-requires c κs = search needs
-
-enum-known-fault : tie.Need-enum-known-fault
-enum-known-fault c = search needs
-
 returns : tie.Need-returns
 returns c = unpack-refused (c .before .before .before .before .before .args .sampler) (c .before .before .before .before .before .args .file .now) (c .before .before .before .before .before .args .words .now) (c .before .before .before .file-fault .ensures) (c .before .fault .given .1)
-
-enum-told : tie.Need-enum-told
-enum-told c = search needs
-
-header-size-requires : tie.Need-header-size-requires
-header-size-requires c κs = search needs
-
-sub-count-in : tie.Need-sub-count-in
-sub-count-in c = search needs
-
-part-count-in-start : tie.Need-part-count-in-start
-part-count-in-start c = search needs
 
 part-count-in-end : tie.Need-part-count-in-end
 part-count-in-end c = opened-long _ (c .before .before .before .before .before .args .file .now) (opened c)
@@ -51,16 +33,10 @@ sub-fill c = omega (arith, opened-long _ (c .before .before .before .before .bef
 part-fill-start : tie.Need-part-fill-start
 part-fill-start c = let e = opened-long _ (c .before .before .before .before .before .before .before .before .args .file .now) (opened (c .before .before .before)) in search needs
 
-part-fill-end : tie.Need-part-fill-end
-part-fill-end c = search needs
-
 fill-requires : tie.Need-fill-requires
 fill-requires c κs =
     let a = c .before .before .before .before .before .before .before .before .before .before .args in
     (unpack-room (a .sampler) (a .file .now) (a .words .now) (opened (c .before .before .before .before .before)) (c .before .before .before .count-in .ensures .value), c .before .before .if1 .left)
-
-same-length : tie.Need-same-length
-same-length c = search needs
 
 returns-3 : tie.Need-returns-3
 returns-3 c =
@@ -71,19 +47,19 @@ pub unpack-spec : {M : Type 1} → statement M
 unpack-spec =
     tie.close
     (tie.spec
-    file-fault-requires
-    enum-known-fault
+    (λ c κs. search needs)
+    (λ c. search needs)
     returns
-    enum-told
-    header-size-requires
-    sub-count-in
-    part-count-in-start
+    (λ c. search needs)
+    (λ c κs. search needs)
+    (λ c. search needs)
+    (λ c. search needs)
     part-count-in-end
     count-in-requires
     returns-2
     sub-fill
     part-fill-start
-    part-fill-end
+    (λ c. search needs)
     fill-requires
-    same-length
+    (λ c. search needs)
     returns-3)

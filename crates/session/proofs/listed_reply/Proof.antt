@@ -8,15 +8,6 @@ use Rattle.calls.specs.declared.Entry.{Entry}
 use Rattle.session.proofs.listed_reply.Statement.{statement}
 use Rattle.session.proofs.listed_reply.Tie as tie
 
-enum-known-entry : tie.Need-enum-known-entry
-enum-known-entry c = search needs
-
-enum-known-entry-2 : tie.Need-enum-known-entry-2
-enum-known-entry-2 c = search needs
-
-cast-t8 : tie.Need-cast-t8
-cast-t8 c = search needs
-
 returns : tie.Need-returns
 returns c =
     let name = c .before .before .before .before .args .listed .name in
@@ -30,4 +21,4 @@ returns-2 c =
     ap (λ (x : Entry). replyWith (entryOf x name) name) (sym (e .1))
 
 pub listed-reply-spec : {M : Type 1} → statement M
-listed-reply-spec = tie.close (tie.spec enum-known-entry enum-known-entry-2 cast-t8 returns returns-2)
+listed-reply-spec = tie.close (tie.spec (λ c. search needs) (λ c. search needs) (λ c. search needs) returns returns-2)

@@ -16,18 +16,6 @@ use Rattle.calls.specs.Made.{FindMade}
 use Rattle.session.proofs.make_find.Statement.{statement}
 use Rattle.session.proofs.make_find.Tie as tie
 
-find-requires : tie.Need-find-requires
-find-requires c κs = search needs
-
-found-reply-requires : tie.Need-found-reply-requires
-found-reply-requires c κs = search needs
-
-write-reply-requires : tie.Need-write-reply-requires
-write-reply-requires c κs = search needs
-
-same-length : tie.Need-same-length
-same-length c = search needs
-
 returns : tie.Need-returns
 returns c =
     let a = c .before .before .before .before .before .before .before .before .before .args in
@@ -41,4 +29,4 @@ returns c =
 pub make-find-spec : {M : Type 1} → statement M
 make-find-spec =
     tie.close
-    (tie.spec find-requires found-reply-requires write-reply-requires same-length returns)
+    (tie.spec (λ c κs. search needs) (λ c κs. search needs) (λ c κs. search needs) (λ c. search needs) returns)

@@ -15,18 +15,6 @@ use Rattle.calls.specs.Made.{ListMade}
 use Rattle.session.proofs.make_list.Statement.{statement}
 use Rattle.session.proofs.make_list.Tie as tie
 
-list-requires : tie.Need-list-requires
-list-requires c κs = search needs
-
-listed-reply-requires : tie.Need-listed-reply-requires
-listed-reply-requires c κs = search needs
-
-write-reply-requires : tie.Need-write-reply-requires
-write-reply-requires c κs = search needs
-
-same-length : tie.Need-same-length
-same-length c = search needs
-
 returns : tie.Need-returns
 returns c =
     let a = c .before .before .before .before .before .before .before .before .args in
@@ -40,4 +28,4 @@ returns c =
 pub make-list-spec : {M : Type 1} → statement M
 make-list-spec =
     tie.close
-    (tie.spec list-requires listed-reply-requires write-reply-requires same-length returns)
+    (tie.spec (λ c κs. search needs) (λ c κs. search needs) (λ c κs. search needs) (λ c. search needs) returns)

@@ -17,27 +17,6 @@ use Rattle.calls.specs.Made.{PageMade}
 use Rattle.session.proofs.make_page.Statement.{statement}
 use Rattle.session.proofs.make_page.Tie as tie
 
-sub-page : tie.Need-sub-page
-sub-page c = search needs
-
-part-page-start : tie.Need-part-page-start
-part-page-start c = search needs
-
-part-page-end : tie.Need-part-page-end
-part-page-end c = search needs
-
-page-requires : tie.Need-page-requires
-page-requires c κs = search needs
-
-paged-reply-requires : tie.Need-paged-reply-requires
-paged-reply-requires c κs = search needs
-
-write-reply-requires : tie.Need-write-reply-requires
-write-reply-requires c κs = search needs
-
-same-length : tie.Need-same-length
-same-length c = search needs
-
 returns : tie.Need-returns
 unfolding part
 returns c =
@@ -54,11 +33,11 @@ pub make-page-spec : {M : Type 1} → statement M
 make-page-spec =
     tie.close
     (tie.spec
-    sub-page
-    part-page-start
-    part-page-end
-    page-requires
-    paged-reply-requires
-    write-reply-requires
-    same-length
+    (λ c. search needs)
+    (λ c. search needs)
+    (λ c. search needs)
+    (λ c κs. search needs)
+    (λ c κs. search needs)
+    (λ c κs. search needs)
+    (λ c. search needs)
     returns)

@@ -16,21 +16,6 @@ use Rattle.calls.specs.Made.{PutMade}
 use Rattle.session.proofs.make_put.Statement.{statement}
 use Rattle.session.proofs.make_put.Tie as tie
 
-put-requires : tie.Need-put-requires
-put-requires c κs = search needs
-
-found-reply-requires : tie.Need-found-reply-requires
-found-reply-requires c κs = search needs
-
-write-reply-requires : tie.Need-write-reply-requires
-write-reply-requires c κs = search needs
-
-same-length : tie.Need-same-length
-same-length c = search needs
-
-same-length-2 : tie.Need-same-length-2
-same-length-2 c = search needs
-
 returns : tie.Need-returns
 returns c =
     let a = c .before .before .before .before .before .before .before .before .before .before .before .before .before .args in
@@ -45,9 +30,9 @@ pub make-put-spec : {M : Type 1} → statement M
 make-put-spec =
     tie.close
     (tie.spec
-    put-requires
-    found-reply-requires
-    write-reply-requires
-    same-length
-    same-length-2
+    (λ c κs. search needs)
+    (λ c κs. search needs)
+    (λ c κs. search needs)
+    (λ c. search needs)
+    (λ c. search needs)
     returns)

@@ -16,21 +16,6 @@ use Rattle.calls.specs.Made.{RemoveMade}
 use Rattle.session.proofs.make_remove.Statement.{statement}
 use Rattle.session.proofs.make_remove.Tie as tie
 
-remove-requires : tie.Need-remove-requires
-remove-requires c κs = search needs
-
-removed-reply-requires : tie.Need-removed-reply-requires
-removed-reply-requires c κs = search needs
-
-write-reply-requires : tie.Need-write-reply-requires
-write-reply-requires c κs = search needs
-
-same-length : tie.Need-same-length
-same-length c = search needs
-
-same-length-2 : tie.Need-same-length-2
-same-length-2 c = search needs
-
 returns : tie.Need-returns
 returns c =
     let a = c .before .before .before .before .before .before .before .before .before .before .before .before .args in
@@ -45,9 +30,9 @@ pub make-remove-spec : {M : Type 1} → statement M
 make-remove-spec =
     tie.close
     (tie.spec
-    remove-requires
-    removed-reply-requires
-    write-reply-requires
-    same-length
-    same-length-2
+    (λ c κs. search needs)
+    (λ c κs. search needs)
+    (λ c κs. search needs)
+    (λ c. search needs)
+    (λ c. search needs)
     returns)

@@ -8,18 +8,6 @@ use Rattle.calls.specs.declared.Paged.{Paged}
 use Rattle.session.proofs.paged_reply.Statement.{statement}
 use Rattle.session.proofs.paged_reply.Tie as tie
 
-enum-known-paged : tie.Need-enum-known-paged
-enum-known-paged c = search needs
-
-value-reply-requires : tie.Need-value-reply-requires
-value-reply-requires c κs = search needs
-
-enum-known-paged-2 : tie.Need-enum-known-paged-2
-enum-known-paged-2 c = search needs
-
-refused-reply-requires : tie.Need-refused-reply-requires
-refused-reply-requires c κs = search needs
-
 returns : tie.Need-returns
 returns c = c .value-reply .ensures ∙ ap (λ (x : Paged). replyOf (pagedOf x)) (sym (c .before .before .paged .given .1))
 
@@ -27,4 +15,4 @@ returns-2 : tie.Need-returns-2
 returns-2 c = c .refused-reply .ensures ∙ ap (λ (x : Paged). replyOf (pagedOf x)) (sym (c .before .before .paged2 .given .1))
 
 pub paged-reply-spec : {M : Type 1} → statement M
-paged-reply-spec = tie.close (tie.spec enum-known-paged value-reply-requires enum-known-paged-2 refused-reply-requires returns returns-2)
+paged-reply-spec = tie.close (tie.spec (λ c. search needs) (λ c κs. search needs) (λ c. search needs) (λ c κs. search needs) returns returns-2)

@@ -7,11 +7,8 @@ use Rattle.session.specs.Lemmas.Entries.{nameless}
 use Rattle.session.proofs.refused_reply.Statement.{statement}
 use Rattle.session.proofs.refused_reply.Tie as tie
 
-cast-t2 : tie.Need-cast-t2
-cast-t2 c = search needs
-
 returns : tie.Need-returns
 returns c = nameless (refusedBy (c .before .args .refusal)) refl
 
 pub refused-reply-spec : {M : Type 1} → statement M
-refused-reply-spec = tie.close (tie.spec cast-t2 returns)
+refused-reply-spec = tie.close (tie.spec (λ c. search needs) returns)

@@ -8,18 +8,6 @@ use Rattle.calls.specs.declared.Removed.{Removed}
 use Rattle.session.proofs.removed_reply.Statement.{statement}
 use Rattle.session.proofs.removed_reply.Tie as tie
 
-enum-told : tie.Need-enum-told
-enum-told c = search needs
-
-value-reply-requires : tie.Need-value-reply-requires
-value-reply-requires c κs = search needs
-
-enum-known-removed : tie.Need-enum-known-removed
-enum-known-removed c = search needs
-
-refused-reply-requires : tie.Need-refused-reply-requires
-refused-reply-requires c κs = search needs
-
 returns : tie.Need-returns
 returns c = c .value-reply .ensures ∙ ap (λ (x : Removed). replyOf (removedOf x)) (sym (c .before .enum-told .given .1))
 
@@ -27,4 +15,4 @@ returns-2 : tie.Need-returns-2
 returns-2 c = c .refused-reply .ensures ∙ ap (λ (x : Removed). replyOf (removedOf x)) (sym (c .before .before .removed .given .1))
 
 pub removed-reply-spec : {M : Type 1} → statement M
-removed-reply-spec = tie.close (tie.spec enum-told value-reply-requires enum-known-removed refused-reply-requires returns returns-2)
+removed-reply-spec = tie.close (tie.spec (λ c. search needs) (λ c κs. search needs) (λ c. search needs) (λ c κs. search needs) returns returns-2)

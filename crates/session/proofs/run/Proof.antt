@@ -22,53 +22,14 @@ Inv-loop image₀ script pool out₀ n k₀ image out k =
 abbrev μ-loop : tie.MeasureT-loop
 μ-loop image₀ script pool out₀ n k₀ image out k = n - k
 
-least-requires : tie.Need-least-requires Inv-loop μ-loop
-least-requires c κs = search needs
-
 loop-holds : tie.Need-loop-holds Inv-loop μ-loop
 loop-holds c = (omega arith, refl, refl, run-start _ _ _ _ _)
-
-mul-from : tie.Need-mul-from Inv-loop μ-loop
-mul-from c = search needs
-
-add-to : tie.Need-add-to Inv-loop μ-loop
-add-to c = search needs
-
-mul-at : tie.Need-mul-at Inv-loop μ-loop
-mul-at c = search needs
-
-add-end : tie.Need-add-end Inv-loop μ-loop
-add-end c = search needs
-
-sub-run-entry : tie.Need-sub-run-entry Inv-loop μ-loop
-sub-run-entry c = search needs
-
-part-run-entry-start : tie.Need-part-run-entry-start Inv-loop μ-loop
-part-run-entry-start c = search needs
-
-part-run-entry-end : tie.Need-part-run-entry-end Inv-loop μ-loop
-part-run-entry-end c = search needs
-
-sub-run-entry-2 : tie.Need-sub-run-entry-2 Inv-loop μ-loop
-sub-run-entry-2 c = search needs
-
-part-run-entry-start-2 : tie.Need-part-run-entry-start-2 Inv-loop μ-loop
-part-run-entry-start-2 c = search needs
 
 part-run-entry-end-2 : tie.Need-part-run-entry-end-2 Inv-loop μ-loop
 part-run-entry-end-2 c =
     let l = c .before .before .before .loop in
     let a = c .before .before .before .before .before .before .before .before .before .args in
     part-fits (length (now (a .script)) / 20) (length (l .out)) (l .k) (c .before .before .before .before .least .ensures ∙ ap (λ m. min (length (now (a .script)) / 20) (m / 1044)) (sym (l .inv .2))) (c .before .before .loop-test .taken)
-
-run-entry-requires : tie.Need-run-entry-requires Inv-loop μ-loop
-run-entry-requires c κs = search needs
-
-add-k : tie.Need-add-k Inv-loop μ-loop
-add-k c = search needs
-
-loop-less : tie.Need-loop-less Inv-loop μ-loop
-loop-less c = search needs
 
 loop-again : tie.Need-loop-again Inv-loop μ-loop
 loop-again c =
@@ -124,21 +85,21 @@ run-spec =
     (tie.spec
     Inv-loop
     μ-loop
-    least-requires
+    (λ c κs. search needs)
     loop-holds
-    mul-from
-    add-to
-    mul-at
-    add-end
-    sub-run-entry
-    part-run-entry-start
-    part-run-entry-end
-    sub-run-entry-2
-    part-run-entry-start-2
+    (λ c. search needs)
+    (λ c. search needs)
+    (λ c. search needs)
+    (λ c. search needs)
+    (λ c. search needs)
+    (λ c. search needs)
+    (λ c. search needs)
+    (λ c. search needs)
+    (λ c. search needs)
     part-run-entry-end-2
-    run-entry-requires
-    add-k
-    loop-less
+    (λ c κs. search needs)
+    (λ c. search needs)
+    (λ c. search needs)
     loop-again
     same-length
     same-length-2

@@ -12,65 +12,17 @@ use Rattle.session.specs.Lemmas.Entries.{made-as, ended-as, fits-end, en
 use Rattle.session.proofs.run_entry.Statement.{statement}
 use Rattle.session.proofs.run_entry.Tie as tie
 
-shared-slice-read-op : tie.Need-shared-slice-read-op
-shared-slice-read-op c = search needs
-
-number4-requires : tie.Need-number4-requires
-number4-requires c κs = search needs
-
-number4-requires-2 : tie.Need-number4-requires-2
-number4-requires-2 c κs = search needs
-
-make-list-requires : tie.Need-make-list-requires
-make-list-requires c κs = search needs
-
-same-length : tie.Need-same-length
-same-length c = search needs
-
-same-length-2 : tie.Need-same-length-2
-same-length-2 c = search needs
-
 returns : tie.Need-returns
 returns c = made-as (now (c .before .before .before .before .before .before .before .before .before .before .before .before .before .args .image)) (now (c .before .before .before .before .before .before .before .before .before .before .before .before .before .args .shown)) (entry-list (now (c .before .before .before .before .before .before .before .before .before .before .before .before .before .args .entry)) (now (c .before .before .before .before .before .before .before .before .before .before .before .before .before .args .pool)) (part (now (c .before .before .before .before .before .before .before .before .before .before .before .before .before .args .shown)) 20 1024) (c .before .before .before .before .before .before .before .number4 .ensures) (c .before .before .before .before .before .if1 .taken)) (c .before .before .make-list .ensures .0) (c .before .before .make-list .ensures .1)
-
-make-page-requires : tie.Need-make-page-requires
-make-page-requires c κs = search needs
-
-same-length-3 : tie.Need-same-length-3
-same-length-3 c = search needs
-
-same-length-4 : tie.Need-same-length-4
-same-length-4 c = search needs
 
 returns-2 : tie.Need-returns-2
 returns-2 c = made-as (now (c .before .before .before .before .before .before .before .before .before .before .before .before .before .before .args .image)) (now (c .before .before .before .before .before .before .before .before .before .before .before .before .before .before .args .shown)) (entry-page (now (c .before .before .before .before .before .before .before .before .before .before .before .before .before .before .args .entry)) (now (c .before .before .before .before .before .before .before .before .before .before .before .before .before .before .args .pool)) (part (now (c .before .before .before .before .before .before .before .before .before .before .before .before .before .before .args .shown)) 20 1024) (c .before .before .before .before .before .before .before .before .number4 .ensures) (c .before .before .before .before .before .before .before .number42 .ensures) (c .before .before .before .before .before .if2 .taken)) (c .before .before .make-page .ensures .0) (c .before .before .make-page .ensures .1)
 
-is-in-requires : tie.Need-is-in-requires
-is-in-requires c κs = search needs
-
 returns-3 : tie.Need-returns-3
 returns-3 c = ended-as (now (c .before .before .before .before .before .before .before .before .before .before .before .args .image)) (now (c .before .before .before .before .before .before .before .before .before .before .before .args .shown)) (entry-none (now (c .before .before .before .before .before .before .before .before .before .before .before .args .entry)) (now (c .before .before .before .before .before .before .before .before .before .before .before .args .pool)) (part (now (c .before .before .before .before .before .before .before .before .before .before .before .args .shown)) 20 1024) (c .before .before .before .before .before .number4 .ensures) (c .before .before .before .before .number42 .ensures) (c .before .before .before .if1 .left) (c .before .before .if2 .left) (sym (c .before .is-in .ensures) ∙ not-true _ (c .if3 .taken)))
 
-add-stop : tie.Need-add-stop
-add-stop c = search needs
-
-sub-run-named : tie.Need-sub-run-named
-sub-run-named c = search needs
-
-part-run-named-start : tie.Need-part-run-named-start
-part-run-named-start c = search needs
-
 part-run-named-end : tie.Need-part-run-named-end
 part-run-named-end c = fits-end _ _ _ (sym (c .before .before .is-in .ensures) ∙ not-false _ (c .before .if3 .left))
-
-run-named-requires : tie.Need-run-named-requires
-run-named-requires c κs = search needs
-
-same-length-5 : tie.Need-same-length-5
-same-length-5 c = search needs
-
-same-length-6 : tie.Need-same-length-6
-same-length-6 c = search needs
 
 returns-4 : tie.Need-returns-4
 returns-4 c =
@@ -82,24 +34,24 @@ pub run-entry-spec : {M : Type 1} → statement M
 run-entry-spec =
     tie.close
     (tie.spec
-    shared-slice-read-op
-    number4-requires
-    number4-requires-2
-    make-list-requires
-    same-length
-    same-length-2
+    (λ c. search needs)
+    (λ c κs. search needs)
+    (λ c κs. search needs)
+    (λ c κs. search needs)
+    (λ c. search needs)
+    (λ c. search needs)
     returns
-    make-page-requires
-    same-length-3
-    same-length-4
+    (λ c κs. search needs)
+    (λ c. search needs)
+    (λ c. search needs)
     returns-2
-    is-in-requires
+    (λ c κs. search needs)
     returns-3
-    add-stop
-    sub-run-named
-    part-run-named-start
+    (λ c. search needs)
+    (λ c. search needs)
+    (λ c. search needs)
     part-run-named-end
-    run-named-requires
-    same-length-5
-    same-length-6
+    (λ c κs. search needs)
+    (λ c. search needs)
+    (λ c. search needs)
     returns-4)

@@ -10,44 +10,14 @@ use Rattle.session.specs.Lemmas.Entries.{made-as, ended-as, named-find, 
 use Rattle.session.proofs.run_named.Statement.{statement}
 use Rattle.session.proofs.run_named.Tie as tie
 
-shared-slice-read-op : tie.Need-shared-slice-read-op
-shared-slice-read-op c = search needs
-
-make-find-requires : tie.Need-make-find-requires
-make-find-requires c κs = search needs
-
-same-length : tie.Need-same-length
-same-length c = search needs
-
-same-length-2 : tie.Need-same-length-2
-same-length-2 c = search needs
-
 returns : tie.Need-returns
 returns c = made-as (now (c .before .before .before .before .before .before .before .before .before .before .before .before .args .image)) (now (c .before .before .before .before .before .before .before .before .before .before .before .before .args .shown)) (named-find (now (c .before .before .before .before .before .before .before .before .before .before .before .before .args .name)) (now (c .before .before .before .before .before .before .before .before .before .before .before .before .args .entry)) (now (c .before .before .before .before .before .before .before .before .before .before .before .before .args .pool)) (c .before .before .before .before .before .if1 .taken)) (c .before .before .make-find .ensures .0) (c .before .before .make-find .ensures .1)
-
-make-remove-requires : tie.Need-make-remove-requires
-make-remove-requires c κs = search needs
-
-same-length-3 : tie.Need-same-length-3
-same-length-3 c = search needs
-
-same-length-4 : tie.Need-same-length-4
-same-length-4 c = search needs
 
 returns-2 : tie.Need-returns-2
 returns-2 c = made-as (now (c .before .before .before .before .before .before .before .before .before .before .before .before .before .before .before .args .image)) (now (c .before .before .before .before .before .before .before .before .before .before .before .before .before .before .before .args .shown)) (named-remove (now (c .before .before .before .before .before .before .before .before .before .before .before .before .before .before .before .args .name)) (now (c .before .before .before .before .before .before .before .before .before .before .before .before .before .before .before .args .entry)) (now (c .before .before .before .before .before .before .before .before .before .before .before .before .before .before .before .args .pool)) (c .before .before .before .before .before .before .before .if2 .taken)) (c .before .before .before .before .make-remove .ensures .0) (c .before .before .before .before .make-remove .ensures .1)
 
 returns-3 : tie.Need-returns-3
 returns-3 c = ended-as (now (c .before .before .before .before .before .before .before .before .before .args .image)) (now (c .before .before .before .before .before .before .before .before .before .args .shown)) (named-none (now (c .before .before .before .before .before .before .before .before .before .args .name)) (now (c .before .before .before .before .before .before .before .before .before .args .entry)) (now (c .before .before .before .before .before .before .before .before .before .args .pool)) (c .before .before .if1 .left) (c .before .if2 .left) (c .if3 .taken))
-
-run-put-requires : tie.Need-run-put-requires
-run-put-requires c κs = search needs
-
-same-length-5 : tie.Need-same-length-5
-same-length-5 c = search needs
-
-same-length-6 : tie.Need-same-length-6
-same-length-6 c = search needs
 
 returns-4 : tie.Need-returns-4
 returns-4 c =
@@ -57,17 +27,17 @@ pub run-named-spec : {M : Type 1} → statement M
 run-named-spec =
     tie.close
     (tie.spec
-    shared-slice-read-op
-    make-find-requires
-    same-length
-    same-length-2
+    (λ c. search needs)
+    (λ c κs. search needs)
+    (λ c. search needs)
+    (λ c. search needs)
     returns
-    make-remove-requires
-    same-length-3
-    same-length-4
+    (λ c κs. search needs)
+    (λ c. search needs)
+    (λ c. search needs)
     returns-2
     returns-3
-    run-put-requires
-    same-length-5
-    same-length-6
+    (λ c κs. search needs)
+    (λ c. search needs)
+    (λ c. search needs)
     returns-4)

@@ -8,43 +8,13 @@ use Rattle.session.specs.Lemmas.Entries.{fits-end, made-as, ended-as, pu
 use Rattle.session.proofs.run_put.Statement.{statement}
 use Rattle.session.proofs.run_put.Tie as tie
 
-number4-requires : tie.Need-number4-requires
-number4-requires c κs = search needs
-
-number4-requires-2 : tie.Need-number4-requires-2
-number4-requires-2 c κs = search needs
-
-is-in-requires : tie.Need-is-in-requires
-is-in-requires c κs = search needs
-
 returns : tie.Need-returns
 returns c =
     ended-as (now (c .before .before .before .before .before .before .before .before .before .args .image)) (now (c .before .before .before .before .before .before .before .before .before .args .shown))
     (put-none (now (c .before .before .before .before .before .before .before .before .before .args .name)) (now (c .before .before .before .before .before .before .before .before .before .args .entry)) (now (c .before .before .before .before .before .before .before .before .before .args .pool)) (c .before .before .before .number4 .ensures) (c .before .before .number42 .ensures) (sym (c .before .is-in .ensures) ∙ not-true _ (c .if1 .taken)))
 
-add-stop : tie.Need-add-stop
-add-stop c = search needs
-
-shared-slice-read-make-put : tie.Need-shared-slice-read-make-put
-shared-slice-read-make-put c = search needs
-
-sub-make-put : tie.Need-sub-make-put
-sub-make-put c = search needs
-
-part-make-put-start : tie.Need-part-make-put-start
-part-make-put-start c = search needs
-
 part-make-put-end : tie.Need-part-make-put-end
 part-make-put-end c = fits-end _ _ _ (sym (c .before .before .before .is-in .ensures) ∙ not-false _ (c .before .before .if1 .left))
-
-make-put-requires : tie.Need-make-put-requires
-make-put-requires c κs = search needs
-
-same-length : tie.Need-same-length
-same-length c = search needs
-
-same-length-2 : tie.Need-same-length-2
-same-length-2 c = search needs
 
 returns-2 : tie.Need-returns-2
 returns-2 c =
@@ -57,16 +27,16 @@ pub run-put-spec : {M : Type 1} → statement M
 run-put-spec =
     tie.close
     (tie.spec
-    number4-requires
-    number4-requires-2
-    is-in-requires
+    (λ c κs. search needs)
+    (λ c κs. search needs)
+    (λ c κs. search needs)
     returns
-    add-stop
-    shared-slice-read-make-put
-    sub-make-put
-    part-make-put-start
+    (λ c. search needs)
+    (λ c. search needs)
+    (λ c. search needs)
+    (λ c. search needs)
     part-make-put-end
-    make-put-requires
-    same-length
-    same-length-2
+    (λ c κs. search needs)
+    (λ c. search needs)
+    (λ c. search needs)
     returns-2)

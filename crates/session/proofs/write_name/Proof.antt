@@ -9,15 +9,6 @@ use Rattle.laws.specs.Splice.{splice, part}
 use Rattle.session.proofs.write_name.Statement.{statement}
 use Rattle.session.proofs.write_name.Tie as tie
 
-slice-aggregate-copy-part : tie.Need-slice-aggregate-copy-part
-slice-aggregate-copy-part c = search needs
-
-copy-part-requires : tie.Need-copy-part-requires
-copy-part-requires c κs = search needs
-
-same-length : tie.Need-same-length
-same-length c = search needs
-
 returns : tie.Need-returns
 unfolding part
 returns c =
@@ -26,4 +17,4 @@ returns c =
 
 pub write-name-spec : {M : Type 1} → statement M
 write-name-spec =
-    tie.close (tie.spec slice-aggregate-copy-part copy-part-requires same-length returns)
+    tie.close (tie.spec (λ c. search needs) (λ c κs. search needs) (λ c. search needs) returns)

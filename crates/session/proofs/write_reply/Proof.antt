@@ -8,18 +8,6 @@ use Rattle.session.specs.Lemmas.Entries.{reply-written}
 use Rattle.session.proofs.write_reply.Statement.{statement}
 use Rattle.session.proofs.write_reply.Tie as tie
 
-store3-requires : tie.Need-store3-requires
-store3-requires c κs = search needs
-
-store3-requires-2 : tie.Need-store3-requires-2
-store3-requires-2 c κs = search needs
-
-slice-write-shown : tie.Need-slice-write-shown
-slice-write-shown c = search needs
-
-flag-of-requires : tie.Need-flag-of-requires
-flag-of-requires c κs = search needs
-
 slice-write-shown-2 : tie.Need-slice-write-shown-2
 slice-write-shown-2 c = simp length-set (omega arith)
 
@@ -38,10 +26,10 @@ pub write-reply-spec : {M : Type 1} → statement M
 write-reply-spec =
     tie.close
     (tie.spec
-    store3-requires
-    store3-requires-2
-    slice-write-shown
-    flag-of-requires
+    (λ c κs. search needs)
+    (λ c κs. search needs)
+    (λ c. search needs)
+    (λ c κs. search needs)
     slice-write-shown-2
     write-name-requires
     same-length

@@ -8,12 +8,6 @@ use Rattle.skilletjay.specs.Results.{doneResult}
 use Rattle.skilletjay.proofs.done_result.Statement.{statement}
 use Rattle.skilletjay.proofs.done_result.Tie as tie
 
-enum-told : tie.Need-enum-told
-enum-told c = search needs
-
-enum-known-removed : tie.Need-enum-known-removed
-enum-known-removed c = search needs
-
 returns : tie.Need-returns
 returns c = ap (λ (x : Removed). doneResult (removedOf x)) (sym (c .enum-told .given .1))
 
@@ -21,4 +15,4 @@ returns-2 : tie.Need-returns-2
 returns-2 c = ap (λ (x : Removed). doneResult (removedOf x)) (sym (c .before .removed .given .1))
 
 pub done-result-spec : {M : Type 1} → statement M
-done-result-spec = tie.close (tie.spec enum-told enum-known-removed returns returns-2)
+done-result-spec = tie.close (tie.spec (λ c. search needs) (λ c. search needs) returns returns-2)

@@ -8,12 +8,6 @@ use Rattle.skilletjay.specs.Results.{foundResult}
 use Rattle.skilletjay.proofs.found_result.Statement.{statement}
 use Rattle.skilletjay.proofs.found_result.Tie as tie
 
-enum-known-found : tie.Need-enum-known-found
-enum-known-found c = search needs
-
-enum-known-found-2 : tie.Need-enum-known-found-2
-enum-known-found-2 c = search needs
-
 returns : tie.Need-returns
 returns c = ap (λ (x : Found). foundResult (foundOf x)) (sym (c .before .found .given .1))
 
@@ -21,4 +15,4 @@ returns-2 : tie.Need-returns-2
 returns-2 c = ap (λ (x : Found). foundResult (foundOf x)) (sym (c .before .found2 .given .1))
 
 pub found-result-spec : {M : Type 1} → statement M
-found-result-spec = tie.close (tie.spec enum-known-found enum-known-found-2 returns returns-2)
+found-result-spec = tie.close (tie.spec (λ c. search needs) (λ c. search needs) returns returns-2)

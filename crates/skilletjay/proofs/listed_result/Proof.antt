@@ -8,12 +8,6 @@ use Rattle.skilletjay.specs.Results.{listedWith}
 use Rattle.skilletjay.proofs.listed_result.Statement.{statement}
 use Rattle.skilletjay.proofs.listed_result.Tie as tie
 
-enum-known-entry : tie.Need-enum-known-entry
-enum-known-entry c = search needs
-
-enum-known-entry-2 : tie.Need-enum-known-entry-2
-enum-known-entry-2 c = search needs
-
 returns : tie.Need-returns
 returns c =
     let name = c .before .before .before .before .args .listed .name in
@@ -25,4 +19,4 @@ returns-2 c =
     ap (λ (x : Entry). listedWith (entryOf x name) name) (sym (c .before .entry2 .given .1))
 
 pub listed-result-spec : {M : Type 1} → statement M
-listed-result-spec = tie.close (tie.spec enum-known-entry enum-known-entry-2 returns returns-2)
+listed-result-spec = tie.close (tie.spec (λ c. search needs) (λ c. search needs) returns returns-2)

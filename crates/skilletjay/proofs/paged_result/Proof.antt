@@ -8,12 +8,6 @@ use Rattle.skilletjay.specs.Results.{pagedResult}
 use Rattle.skilletjay.proofs.paged_result.Statement.{statement}
 use Rattle.skilletjay.proofs.paged_result.Tie as tie
 
-enum-known-paged : tie.Need-enum-known-paged
-enum-known-paged c = search needs
-
-enum-known-paged-2 : tie.Need-enum-known-paged-2
-enum-known-paged-2 c = search needs
-
 returns : tie.Need-returns
 returns c = ap (λ (x : Paged). pagedResult (pagedOf x)) (sym (c .before .paged .given .1))
 
@@ -21,4 +15,4 @@ returns-2 : tie.Need-returns-2
 returns-2 c = ap (λ (x : Paged). pagedResult (pagedOf x)) (sym (c .before .paged2 .given .1))
 
 pub paged-result-spec : {M : Type 1} → statement M
-paged-result-spec = tie.close (tie.spec enum-known-paged enum-known-paged-2 returns returns-2)
+paged-result-spec = tie.close (tie.spec (λ c. search needs) (λ c. search needs) returns returns-2)

@@ -8,19 +8,10 @@ use Rattle.skilletjay.specs.Results.{countedResult}
 use Rattle.skilletjay.proofs.sj_blocks.Statement.{statement}
 use Rattle.skilletjay.proofs.sj_blocks.Tie as tie
 
-file-blocks-requires : tie.Need-file-blocks-requires
-file-blocks-requires c κs = search needs
-
-counted-result-requires : tie.Need-counted-result-requires
-counted-result-requires c κs = search needs
-
-same-length : tie.Need-same-length
-same-length c = search needs
-
 returns : tie.Need-returns
 returns c =
     let e = c .before .before .before .file-blocks .ensures in
     (c .counted-result .ensures ∙ ap (λ (f : Filled ℕ). countedResult (f .answer)) e, ap (λ (f : Filled ℕ). f .output) e)
 
 pub sj-blocks-spec : {M : Type 1} → statement M
-sj-blocks-spec = tie.close (tie.spec file-blocks-requires counted-result-requires same-length returns)
+sj-blocks-spec = tie.close (tie.spec (λ c κs. search needs) (λ c κs. search needs) (λ c. search needs) returns)

@@ -10,14 +10,8 @@ use Rattle.rules.specs.Demand.{check-call}
 use Rattle.skilletjay.proofs.sj_check.Statement.{statement}
 use Rattle.skilletjay.proofs.sj_check.Tie as tie
 
-check-requires : tie.Need-check-requires
-check-requires c κs = search needs
-
-checked-result-requires : tie.Need-checked-result-requires
-checked-result-requires c κs = search needs
-
 returns : tie.Need-returns
 returns c = c .checked-result .ensures ∙ ap (λ (w : Checked). checkedResult (answerOf w)) (c .before .check .ensures) ∙ ap checkedResult (sym (check-call (now (c .before .before .before .args .image))))
 
 pub sj-check-spec : {M : Type 1} → statement M
-sj-check-spec = tie.close (tie.spec check-requires checked-result-requires returns)
+sj-check-spec = tie.close (tie.spec (λ c κs. search needs) (λ c κs. search needs) returns)

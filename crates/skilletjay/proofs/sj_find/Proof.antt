@@ -9,15 +9,9 @@ use Rattle.skilletjay.specs.Results.{foundResult}
 use Rattle.skilletjay.proofs.sj_find.Statement.{statement}
 use Rattle.skilletjay.proofs.sj_find.Tie as tie
 
-find-requires : tie.Need-find-requires
-find-requires c κs = search needs
-
-found-result-requires : tie.Need-found-result-requires
-found-result-requires c κs = search needs
-
 returns : tie.Need-returns
 returns c =
     c .found-result .ensures ∙ ap (λ (o : Outcome (List ℕ)). foundResult (o .answer)) (c .before .find .ensures)
 
 pub sj-find-spec : {M : Type 1} → statement M
-sj-find-spec = tie.close (tie.spec find-requires found-result-requires returns)
+sj-find-spec = tie.close (tie.spec (λ c κs. search needs) (λ c κs. search needs) returns)

@@ -9,16 +9,10 @@ use Rattle.skilletjay.specs.Results.{listedWith}
 use Rattle.skilletjay.proofs.sj_list.Statement.{statement}
 use Rattle.skilletjay.proofs.sj_list.Tie as tie
 
-list-requires : tie.Need-list-requires
-list-requires c κs = search needs
-
-listed-result-requires : tie.Need-listed-result-requires
-listed-result-requires c κs = search needs
-
 returns : tie.Need-returns
 returns c =
     let l = c .before .list .ensures in
     c .listed-result .ensures ∙ ap₂ listedWith (ap (λ (o : Outcome (List ℕ)). o .answer) (l .answer)) (l .name)
 
 pub sj-list-spec : {M : Type 1} → statement M
-sj-list-spec = tie.close (tie.spec list-requires listed-result-requires returns)
+sj-list-spec = tie.close (tie.spec (λ c κs. search needs) (λ c κs. search needs) returns)

@@ -9,15 +9,6 @@ use Rattle.skilletjay.specs.Results.{pagedResult}
 use Rattle.skilletjay.proofs.sj_page.Statement.{statement}
 use Rattle.skilletjay.proofs.sj_page.Tie as tie
 
-page-requires : tie.Need-page-requires
-page-requires c κs = search needs
-
-paged-result-requires : tie.Need-paged-result-requires
-paged-result-requires c κs = search needs
-
-same-length : tie.Need-same-length
-same-length c = search needs
-
 returns : tie.Need-returns
 returns c =
     let g = c .before .before .before in
@@ -25,4 +16,4 @@ returns c =
     (c .paged-result .ensures ∙ ap (λ (o : Outcome (List ℕ)). pagedResult (o .answer)) e, ap (λ (o : Outcome (List ℕ)). o .output) e)
 
 pub sj-page-spec : {M : Type 1} → statement M
-sj-page-spec = tie.close (tie.spec page-requires paged-result-requires same-length returns)
+sj-page-spec = tie.close (tie.spec (λ c κs. search needs) (λ c κs. search needs) (λ c. search needs) returns)

@@ -6,14 +6,8 @@ use Rattle.skilletjay.specs.Results.{countedResult}
 use Rattle.skilletjay.proofs.sj_program.Statement.{statement}
 use Rattle.skilletjay.proofs.sj_program.Tie as tie
 
-check-requires : tie.Need-check-requires
-check-requires c κs = search needs
-
-counted-result-requires : tie.Need-counted-result-requires
-counted-result-requires c κs = search needs
-
 returns : tie.Need-returns
 returns c = c .counted-result .ensures ∙ ap countedResult (c .before .check .ensures)
 
 pub sj-program-spec : {M : Type 1} → statement M
-sj-program-spec = tie.close (tie.spec check-requires counted-result-requires returns)
+sj-program-spec = tie.close (tie.spec (λ c κs. search needs) (λ c κs. search needs) returns)

@@ -9,15 +9,6 @@ use Rattle.skilletjay.specs.Results.{foundResult}
 use Rattle.skilletjay.proofs.sj_put.Statement.{statement}
 use Rattle.skilletjay.proofs.sj_put.Tie as tie
 
-put-requires : tie.Need-put-requires
-put-requires c κs = search needs
-
-found-result-requires : tie.Need-found-result-requires
-found-result-requires c κs = search needs
-
-same-length : tie.Need-same-length
-same-length c = search needs
-
 returns : tie.Need-returns
 returns c =
     let g = c .before .before .before in
@@ -25,4 +16,4 @@ returns c =
     (c .found-result .ensures ∙ ap (λ (o : Outcome (List ℕ)). foundResult (o .answer)) e, ap (λ (o : Outcome (List ℕ)). o .state) e)
 
 pub sj-put-spec : {M : Type 1} → statement M
-sj-put-spec = tie.close (tie.spec put-requires found-result-requires same-length returns)
+sj-put-spec = tie.close (tie.spec (λ c κs. search needs) (λ c κs. search needs) (λ c. search needs) returns)

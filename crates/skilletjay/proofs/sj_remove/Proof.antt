@@ -9,15 +9,6 @@ use Rattle.skilletjay.specs.Results.{doneResult}
 use Rattle.skilletjay.proofs.sj_remove.Statement.{statement}
 use Rattle.skilletjay.proofs.sj_remove.Tie as tie
 
-remove-requires : tie.Need-remove-requires
-remove-requires c κs = search needs
-
-done-result-requires : tie.Need-done-result-requires
-done-result-requires c κs = search needs
-
-same-length : tie.Need-same-length
-same-length c = search needs
-
 returns : tie.Need-returns
 returns c =
     let g = c .before .before .before in
@@ -25,4 +16,4 @@ returns c =
     (c .done-result .ensures ∙ ap (λ (o : Outcome (List ℕ)). doneResult (o .answer)) e, ap (λ (o : Outcome (List ℕ)). o .state) e)
 
 pub sj-remove-spec : {M : Type 1} → statement M
-sj-remove-spec = tie.close (tie.spec remove-requires done-result-requires same-length returns)
+sj-remove-spec = tie.close (tie.spec (λ c κs. search needs) (λ c κs. search needs) (λ c. search needs) returns)

@@ -8,15 +8,6 @@ use Rattle.skilletjay.specs.Results.{countedResult}
 use Rattle.skilletjay.proofs.sj_s900_unpack.Statement.{statement}
 use Rattle.skilletjay.proofs.sj_s900_unpack.Tie as tie
 
-unpack-requires : tie.Need-unpack-requires
-unpack-requires c κs = search needs
-
-counted-result-requires : tie.Need-counted-result-requires
-counted-result-requires c κs = search needs
-
-same-length : tie.Need-same-length
-same-length c = search needs
-
 returns : tie.Need-returns
 returns c =
     let e = c .before .before .unpack .ensures in
@@ -24,4 +15,4 @@ returns c =
 
 pub sj-s900-unpack-spec : {M : Type 1} → statement M
 sj-s900-unpack-spec =
-    tie.close (tie.spec unpack-requires counted-result-requires same-length returns)
+    tie.close (tie.spec (λ c κs. search needs) (λ c κs. search needs) (λ c. search needs) returns)

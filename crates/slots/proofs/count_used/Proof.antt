@@ -32,18 +32,6 @@ loop-holds c =
     let z : c .before .args .layout .slots - 0 ≡ c .before .args .layout .slots = omega arith in
     (omega arith, omega arith, rw z (omega arith))
 
-is-used-requires : tie.Need-is-used-requires Inv-loop μ-loop
-is-used-requires c κs = search needs
-
-add-count : tie.Need-add-count Inv-loop μ-loop
-add-count c = search needs
-
-add-slot : tie.Need-add-slot Inv-loop μ-loop
-add-slot c = search needs
-
-loop-less : tie.Need-loop-less Inv-loop μ-loop
-loop-less c = search needs
-
 loop-again : tie.Need-loop-again Inv-loop μ-loop
 loop-again c =
     let k = c .before .before .before .loop in
@@ -68,9 +56,9 @@ count-used-spec =
     Inv-loop
     μ-loop
     loop-holds
-    is-used-requires
-    add-count
-    add-slot
-    loop-less
+    (λ c κs. search needs)
+    (λ c. search needs)
+    (λ c. search needs)
+    (λ c. search needs)
     loop-again
     returns)

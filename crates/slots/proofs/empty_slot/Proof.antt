@@ -18,15 +18,6 @@ Inv-loop head layout slots slot₀ slot = Searched (λ s. not (used (viewOf layo
 abbrev μ-loop : tie.MeasureT-loop
 μ-loop head layout slots slot₀ slot = slots - slot
 
-is-used-requires : tie.Need-is-used-requires Inv-loop μ-loop
-is-used-requires c κs = search needs
-
-add-slot : tie.Need-add-slot Inv-loop μ-loop
-add-slot c = search needs
-
-loop-less : tie.Need-loop-less Inv-loop μ-loop
-loop-less c = search needs
-
 loop-holds : tie.Need-loop-holds Inv-loop μ-loop
 loop-holds c = searched-none _ _
 
@@ -46,9 +37,9 @@ empty-slot-spec =
     Inv-loop
     μ-loop
     loop-holds
-    is-used-requires
+    (λ c κs. search needs)
     returns
-    add-slot
-    loop-less
+    (λ c. search needs)
+    (λ c. search needs)
     loop-again
     returns-2)

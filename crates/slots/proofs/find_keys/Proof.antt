@@ -15,15 +15,6 @@ Inv-loop head layout low high slots slot₀ slot = Searched (λ s. hasKeys layou
 abbrev μ-loop : tie.MeasureT-loop
 μ-loop head layout low high slots slot₀ slot = slots - slot
 
-has-keys-requires : tie.Need-has-keys-requires Inv-loop μ-loop
-has-keys-requires c κs = search needs
-
-add-slot : tie.Need-add-slot Inv-loop μ-loop
-add-slot c = search needs
-
-loop-less : tie.Need-loop-less Inv-loop μ-loop
-loop-less c = search needs
-
 loop-holds : tie.Need-loop-holds Inv-loop μ-loop
 loop-holds c = searched-none _ _
 
@@ -43,9 +34,9 @@ find-keys-spec =
     Inv-loop
     μ-loop
     loop-holds
-    has-keys-requires
+    (λ c κs. search needs)
     returns
-    add-slot
-    loop-less
+    (λ c. search needs)
+    (λ c. search needs)
     loop-again
     returns-2)

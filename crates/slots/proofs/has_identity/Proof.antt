@@ -31,18 +31,6 @@ loop-holds c =
     let z : c .before .args .layout .slots - 0 ≡ c .before .args .layout .slots = omega arith in
     (omega arith, rw z refl)
 
-mul-at : tie.Need-mul-at Inv-loop μ-loop
-mul-at c = search needs
-
-add-at : tie.Need-add-at Inv-loop μ-loop
-add-at c = search needs
-
-add-number2 : tie.Need-add-number2 Inv-loop μ-loop
-add-number2 c = search needs
-
-number2-requires : tie.Need-number2-requires Inv-loop μ-loop
-number2-requires c κs = search needs
-
 returns : tie.Need-returns Inv-loop μ-loop
 unfolding hasIdentity
 returns c =
@@ -52,12 +40,6 @@ returns c =
     let b = bytes (now (a .head)) in
     let no = ne-eqb (number 2 b (l .directory + 24 * k .slot + 22)) (l .identity) (λ e. c .if1 .taken (c .before .number2 .ensures .value ∙ e)) in
     sym (all-stop (test b (l .directory) (l .identity)) (k .slot) (l .slots) (omega arith) no) ∙ k .inv .1
-
-add-slot : tie.Need-add-slot Inv-loop μ-loop
-add-slot c = search needs
-
-loop-less : tie.Need-loop-less Inv-loop μ-loop
-loop-less c = search needs
 
 loop-again : tie.Need-loop-again Inv-loop μ-loop
 loop-again c =
@@ -83,12 +65,12 @@ has-identity-spec =
     Inv-loop
     μ-loop
     loop-holds
-    mul-at
-    add-at
-    add-number2
-    number2-requires
+    (λ c. search needs)
+    (λ c. search needs)
+    (λ c. search needs)
+    (λ c κs. search needs)
     returns
-    add-slot
-    loop-less
+    (λ c. search needs)
+    (λ c. search needs)
     loop-again
     returns-2)

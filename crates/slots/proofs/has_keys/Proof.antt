@@ -36,33 +36,15 @@ module _ (l : Layout) (b : ℕ → ℕ) (s low high : ℕ) where
   both-keys e p f q =
       both-when (used (entryAt b (slotOffset l s))) _ (true-both _ _ (eq-eqb (number 8 b (slotOffset l s)) low (sym e ∙ p)) (eq-eqb (number 8 b (slotOffset l s + 8)) high (sym f ∙ q)))
 
-mul-at : tie.Need-mul-at
-mul-at c = search needs
-
-add-at : tie.Need-add-at
-add-at c = search needs
-
-key-requires : tie.Need-key-requires
-key-requires c κs = search needs
-
 returns : tie.Need-returns
 returns c =
     let a = c .before .before .before .before .args in
     sym (other-low (a .layout) (bytes (now (a .head))) (a .slot) (a .low) (a .high) (c .before .key .ensures .value) (c .if1 .taken))
 
-add-key : tie.Need-add-key
-add-key c = search needs
-
-key-requires-2 : tie.Need-key-requires-2
-key-requires-2 c κs = search needs
-
 returns-2 : tie.Need-returns-2
 returns-2 c =
     let a = c .before .before .before .before .before .before .args in
     sym (other-high (a .layout) (bytes (now (a .head))) (a .slot) (a .low) (a .high) (c .before .key2 .ensures .value) (c .if2 .taken))
-
-is-used-requires : tie.Need-is-used-requires
-is-used-requires c κs = search needs
 
 returns-3 : tie.Need-returns-3
 returns-3 c =
@@ -76,12 +58,12 @@ pub has-keys-spec : {M : Type 1} → statement M
 has-keys-spec =
     tie.close
     (tie.spec
-    mul-at
-    add-at
-    key-requires
+    (λ c. search needs)
+    (λ c. search needs)
+    (λ c κs. search needs)
     returns
-    add-key
-    key-requires-2
+    (λ c. search needs)
+    (λ c κs. search needs)
     returns-2
-    is-used-requires
+    (λ c κs. search needs)
     returns-3)

@@ -47,9 +47,6 @@ lent-area : (l : List ℕ) (at : ℕ) → at + 16 ≤ length l → take (at + 16
 unfolding part
 lent-area l at h = let e : at + 16 - at ≡ 16 = omega arith in rw e (sym (tab-part l at 16 h))
 
-is-used-requires : tie.Need-is-used-requires
-is-used-requires c κs = search needs
-
 returns : tie.Need-returns
 unfolding malformed
 returns c = rw (sym (c .before .is-used .ensures) ∙ not-true _ (c .if1 .taken)) refl
@@ -57,12 +54,6 @@ returns c = rw (sym (c .before .is-used .ensures) ∙ not-true _ (c .if1 .taken)
 -- past the first test the slot is used
 is-filled : (c : tie.Else1) → let a = c .before .before .before .args in used (viewOf (a .layout) (bytes (now (a .head))) .entry (a .slot)) ≡ true
 is-filled c = sym (c .before .is-used .ensures) ∙ not-false _ (c .if1 .left)
-
-type-of-requires : tie.Need-type-of-requires
-type-of-requires c κs = search needs
-
-is-type-requires : tie.Need-is-type-requires
-is-type-requires c κs = search needs
 
 returns-2 : tie.Need-returns-2
 unfolding entryAt
@@ -72,32 +63,11 @@ returns-2 c =
     let t = sym (c .before .is-type .ensures) ∙ not-true _ (c .if2 .taken) in
     sym (no-type l (viewOf l (bytes (now (a .head)))) (a .slot) (is-filled (c .before .before .before)) (ap (legalType l) (sym (c .before .before .type-of .ensures)) ∙ t))
 
-size-of-requires : tie.Need-size-of-requires
-size-of-requires c κs = search needs
-
 returns-3 : tie.Need-returns-3
 returns-3 c =
     let a = c .before .before .before .before .before .before .before .before .args in
     let l = a .layout in
     sym (no-size l (viewOf l (bytes (now (a .head)))) (a .slot) (is-filled (c .before .before .before .before .before)) (sym (c .before .size-of .ensures) ∙ c .if3 .taken))
-
-mul-at : tie.Need-mul-at
-mul-at c = search needs
-
-add-at : tie.Need-add-at
-add-at c = search needs
-
-add-end : tie.Need-add-end
-add-end c = search needs
-
-sub-is-area : tie.Need-sub-is-area
-sub-is-area c = search needs
-
-part-is-area-start : tie.Need-part-is-area-start
-part-is-area-start c = search needs
-
-part-is-area-end : tie.Need-part-is-area-end
-part-is-area-end c = search needs
 
 is-area-requires : tie.Need-is-area-requires
 is-area-requires c κs =
@@ -120,18 +90,18 @@ pub is-malformed-spec : {M : Type 1} → statement M
 is-malformed-spec =
     tie.close
     (tie.spec
-    is-used-requires
+    (λ c κs. search needs)
     returns
-    type-of-requires
-    is-type-requires
+    (λ c κs. search needs)
+    (λ c κs. search needs)
     returns-2
-    size-of-requires
+    (λ c κs. search needs)
     returns-3
-    mul-at
-    add-at
-    add-end
-    sub-is-area
-    part-is-area-start
-    part-is-area-end
+    (λ c. search needs)
+    (λ c. search needs)
+    (λ c. search needs)
+    (λ c. search needs)
+    (λ c. search needs)
+    (λ c. search needs)
     is-area-requires
     returns-4)

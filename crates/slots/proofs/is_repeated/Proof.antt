@@ -22,27 +22,9 @@ Inv-loop head layout slot at low high lower₀ lower =
 abbrev μ-loop : tie.MeasureT-loop
 μ-loop head layout slot at low high lower₀ lower = slot - lower
 
-is-used-requires : tie.Need-is-used-requires Inv-loop μ-loop
-is-used-requires c κs = search needs
-
 returns : tie.Need-returns Inv-loop μ-loop
 unfolding repeated
 returns c = rw (sym (c .before .is-used .ensures) ∙ not-true _ (c .if1 .taken)) refl
-
-mul-at : tie.Need-mul-at Inv-loop μ-loop
-mul-at c = search needs
-
-add-at : tie.Need-add-at Inv-loop μ-loop
-add-at c = search needs
-
-key-requires : tie.Need-key-requires Inv-loop μ-loop
-key-requires c κs = search needs
-
-add-key : tie.Need-add-key Inv-loop μ-loop
-add-key c = search needs
-
-key-requires-2 : tie.Need-key-requires-2 Inv-loop μ-loop
-key-requires-2 c κs = search needs
 
 loop-holds : tie.Need-loop-holds Inv-loop μ-loop
 unfolding repeated
@@ -63,21 +45,12 @@ keyed c =
     keys-name (a .layout) (bytes (now (a .head))) (a .slot) (c .before .before .loop .lower) (λ i. omega (arith, small i)) (e .before .key .ensures .value) (e .key2 .ensures .value)
     (c .has-keys .ensures)
 
-has-keys-requires : tie.Need-has-keys-requires Inv-loop μ-loop
-has-keys-requires c κs = search needs
-
 returns-2 : tie.Need-returns-2 Inv-loop μ-loop
 returns-2 c =
     let k = c .before .before .before .loop in
     let a = c .before .before .before .before .before .before .before .before .before .before .args in
     let test = hasNameOf (a .layout) (viewOf (a .layout) (bytes (now (a .head)))) (a .slot) in
     sym (any-stop test (k .lower) (a .slot) (omega arith) (sym (keyed (c .before)) ∙ c .if2 .taken)) ∙ k .inv .1
-
-add-lower : tie.Need-add-lower Inv-loop μ-loop
-add-lower c = search needs
-
-loop-less : tie.Need-loop-less Inv-loop μ-loop
-loop-less c = search needs
 
 loop-again : tie.Need-loop-again Inv-loop μ-loop
 loop-again c =
@@ -98,17 +71,17 @@ is-repeated-spec =
     (tie.spec
     Inv-loop
     μ-loop
-    is-used-requires
+    (λ c κs. search needs)
     returns
-    mul-at
-    add-at
-    key-requires
-    add-key
-    key-requires-2
+    (λ c. search needs)
+    (λ c. search needs)
+    (λ c κs. search needs)
+    (λ c. search needs)
+    (λ c κs. search needs)
     loop-holds
-    has-keys-requires
+    (λ c κs. search needs)
     returns-2
-    add-lower
-    loop-less
+    (λ c. search needs)
+    (λ c. search needs)
     loop-again
     returns-3)

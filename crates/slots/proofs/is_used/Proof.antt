@@ -7,21 +7,9 @@ use Rattle.image.specs.Image.{entryAt}
 use Rattle.slots.proofs.is_used.Statement.{statement}
 use Rattle.slots.proofs.is_used.Tie as tie
 
-mul-at : tie.Need-mul-at
-mul-at c = search needs
-
-add-at : tie.Need-add-at
-add-at c = search needs
-
-add-result : tie.Need-add-result
-add-result c = search needs
-
-shared-slice-read-result : tie.Need-shared-slice-read-result
-shared-slice-read-result c = search needs
-
 returns : tie.Need-returns
 unfolding used entryAt
 returns c = refl
 
 pub is-used-spec : {M : Type 1} → statement M
-is-used-spec = tie.close (tie.spec mul-at add-at add-result shared-slice-read-result returns)
+is-used-spec = tie.close (tie.spec (λ c. search needs) (λ c. search needs) (λ c. search needs) (λ c. search needs) returns)

@@ -6,12 +6,6 @@ use Rattle.words.specs.Lemmas.Signed.{raised-bits12}
 use Rattle.words.proofs.bits12.Statement.{statement}
 use Rattle.words.proofs.bits12.Tie as tie
 
-raised-requires : tie.Need-raised-requires
-raised-requires c κs = search needs
-
-cast-result : tie.Need-cast-result
-cast-result c = search needs
-
 returns : tie.Need-returns
 returns c =
     let a = c .before .args in
@@ -19,4 +13,4 @@ returns c =
     (raised-bits12 (a .word) f (c .raised .ensures), omega arith)
 
 pub bits12-spec : {M : Type 1} → statement M
-bits12-spec = tie.close (tie.spec raised-requires cast-result returns)
+bits12-spec = tie.close (tie.spec (λ c κs. search needs) (λ c. search needs) returns)

@@ -5,12 +5,6 @@ use Rattle.words.specs.Lemmas.Signed.{raised-bits16}
 use Rattle.words.proofs.bits16.Statement.{statement}
 use Rattle.words.proofs.bits16.Tie as tie
 
-raised-requires : tie.Need-raised-requires
-raised-requires c κs = search needs
-
-cast-result : tie.Need-cast-result
-cast-result c = search needs
-
 returns : tie.Need-returns
 returns c =
     let a = c .before .args in
@@ -18,4 +12,4 @@ returns c =
     raised-bits16 (a .word) f (c .raised .ensures)
 
 pub bits16-spec : {M : Type 1} → statement M
-bits16-spec = tie.close (tie.spec raised-requires cast-result returns)
+bits16-spec = tie.close (tie.spec (λ c κs. search needs) (λ c. search needs) returns)

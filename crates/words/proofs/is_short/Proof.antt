@@ -5,9 +5,6 @@ use Rattle.words.specs.Lemmas.Signed.{raised-low, raised-high}
 use Rattle.words.proofs.is_short.Statement.{statement}
 use Rattle.words.proofs.is_short.Tie as tie
 
-raised-requires : tie.Need-raised-requires
-raised-requires c κs = search needs
-
 returns : tie.Need-returns
 returns c = raised-low (c .before .before .args .word) (c .before .before .fits .word) (c .before .raised .ensures) (c .if1 .taken)
 
@@ -15,4 +12,4 @@ returns-2 : tie.Need-returns-2
 returns-2 c = raised-high (c .before .before .args .word) (c .before .before .fits .word) (c .before .raised .ensures) (c .if1 .left)
 
 pub is-short-spec : {M : Type 1} → statement M
-is-short-spec = tie.close (tie.spec raised-requires returns returns-2)
+is-short-spec = tie.close (tie.spec (λ c κs. search needs) returns returns-2)

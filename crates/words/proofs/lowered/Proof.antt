@@ -7,12 +7,6 @@ use Rattle.words.specs.Lemmas.Signed.{less, less16, less32}
 use Rattle.words.proofs.lowered.Statement.{statement}
 use Rattle.words.proofs.lowered.Tie as tie
 
-cast-result : tie.Need-cast-result
-cast-result c = search needs
-
-cast-result-2 : tie.Need-cast-result-2
-cast-result-2 c = search needs
-
 sub-result : tie.Need-sub-result
 sub-result c =
     let a = c .args in
@@ -29,4 +23,4 @@ returns c =
     rw (less (a .number) (a .half) (c .pre .0) (c .pre .1), toZ-ofZ {w = w32} (less32 (a .number) (a .half) (c .pre .0) (c .pre .1))) (toZ-ofZ {w = w16} (less16 (a .number) (a .half) (c .pre .0) (c .pre .1)))
 
 pub lowered-spec : {M : Type 1} → statement M
-lowered-spec = tie.close (tie.spec cast-result cast-result-2 sub-result cast-result-3 returns)
+lowered-spec = tie.close (tie.spec (λ c. search needs) (λ c. search needs) sub-result cast-result-3 returns)

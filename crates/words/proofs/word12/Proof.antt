@@ -10,12 +10,6 @@ use Rattle.words.specs.Lemmas.Signed.{lowered-word}
 use Rattle.words.proofs.word12.Statement.{statement}
 use Rattle.words.proofs.word12.Tie as tie
 
-add-lowered : tie.Need-add-lowered
-add-lowered c = search needs
-
-lowered-requires : tie.Need-lowered-requires
-lowered-requires c κs = search needs
-
 returns : tie.Need-returns
 returns c =
     let bits = c .before .args .bits in
@@ -23,4 +17,4 @@ returns c =
     ∙ lowered-word 2048 bits ((bits + 2048) % 4096) (λ h. omega arith) (λ h. omega arith) (omega arith)
 
 pub word12-spec : {M : Type 1} → statement M
-word12-spec = tie.close (tie.spec add-lowered lowered-requires returns)
+word12-spec = tie.close (tie.spec (λ c. search needs) (λ c κs. search needs) returns)
