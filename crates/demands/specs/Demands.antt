@@ -4,7 +4,7 @@
 --   Call, Answer and stepFiles (record/specs/Record): the plain record, and a call on it; callOf and Made (rules/specs/Check): a call on any bytes;
 --   Kept (rules/specs/Demand), Pages to Joins (record/specs/Download): demand 3; TouchedBy (rules/specs/Outside): what a call may change;
 --   unpackOf and packOf (samples/specs/Samples), SampleRules (samples/specs/Rules), programOf and ProgramRules (program/specs/Program): the files;
---   Told and turnIn (skilletjay/specs/Told): C's results. That the code does so is what each function's contract says. Assumes nothing.
+--   Told and turnIn (skilletjay/specs/Told): C's results; listingOf (listing/specs/Listing): the listing program's text. That the code does so is what each function's contract says. Assumes nothing.
 use mathlib.Core.Path.{_≡_}
 use mathlib.Core.Bool.{true, false}
 use mathlib.Core.List.{List, _++_}
@@ -27,12 +27,12 @@ use Rattle.layout.specs.declared.Kind.{Kind}
 use Rattle.layout.specs.declared.Kind.the-variants.{S1000}
 use Rattle.layout.specs.declared.Density.{Density}
 use Rattle.layout.specs.Layouts.{layoutOf, lengthOf, blocksOf, firstOf, mapOffset, blockOffset}
-use Rattle.names.specs.Names.{legalName}
+use Rattle.names.specs.Names.{legalName, legalType}
 use Rattle.map.specs.Map.{mapAt, freeCount}
 use Rattle.view.specs.Disk.{File, takes}
 use Rattle.image.specs.Image.{filesIn, DiskRules}
-use Rattle.record.specs.Record.{Shape, Files, Call, list, page, refused, paged, Turn, fileCount, slotOf, fileAt, refuse, judgeName, stepFiles}
-use Rattle.record.specs.declared.Judged.the-variants.{Grant}
+use Rattle.record.specs.Record.{Shape, Files, Call, check, list, page, refused, paged, Turn, fileCount, slotOf, emptySlot, free, fileAt, refuse, judgeName, judgePut, stepFiles}
+use Rattle.record.specs.Order.{roomFor}
 use Rattle.record.specs.Order as order
 use Rattle.rules.specs.declared.Checked.the-variants.{Accepted, Refused}
 use Rattle.rules.specs.Check.{checkOf, lent, came, callOf, Made}
@@ -60,6 +60,9 @@ use Rattle.samples.specs.Calls as codecs
 use Rattle.samples.specs.Calls.{Words, PackRules}
 use Rattle.program.specs.Program.{programOf, Sized, ProgramRules, Fails}
 use Rattle.program.specs.Accepted as programs
+use Rattle.listing.specs.Listing.{listingOf}
+use Rattle.listing.specs.Lines.{linesOf}
+use Rattle.listing.specs.Lines as listings
 use Rattle.table.specs.Table.{rows, All}
 use Rattle.table.specs.Table as table
 use Rattle.skilletjay.specs.Told.{CTurn, Told, turnIn, CRan, turnsIn}
@@ -80,13 +83,14 @@ refused-numbered = small.refusal-numbered
 pub counting-unchanged : (c : Counting) (r : Refusal) → countingOf c .answer ≡ counted.Refused r → (1 ≤ r .number) × (countingOf c .output ≡ lentTo c)
 counting-unchanged = counting.counting-kept
 
--- The order in which a call's refusals are asked for; put's is `order-name` to `order-room` beside these.
+-- The order in which a call's refusals are asked for, judged on the record. Find and remove: 11, 10.
 pub find-illegal : (k : Kind) (d : Density) (files : Files) (name : List ℕ) → legalName (layoutOf k d) name ≡ false → judgeName (layoutOf k d) files name ≡ refuse 11 0
 find-illegal k d = order.order-illegal (layoutOf k d)
 
 pub find-missing : (k : Kind) (d : Density) (files : Files) (name : List ℕ) → legalName (layoutOf k d) name ≡ true → slotOf (layoutOf k d) files name ≡ Nowhere → judgeName (layoutOf k d) files name ≡ refuse 10 0
 find-missing k d = order.order-missing (layoutOf k d)
 
+-- List: 10. Page: 10, 17.
 pub list-missing : (shape : Shape) (files : Files) (slot : ℕ) → fileAt (shape .layout) files slot ≡ none → stepFiles shape files (list slot) .answer ≡ refused 10 0
 list-missing = order.order-unlisted
 
@@ -96,6 +100,32 @@ page-missing = order.order-unpaged
 pub page-above : (shape : Shape) (files : Files) (slot offset : ℕ) (out : List ℕ) (f : File) → fileAt (shape .layout) files slot ≡ some f → length (f .content) < offset
     → stepFiles shape files (page slot offset out) .answer ≡ refused 17 0
 page-above = order.order-above
+
+-- Put: 11, 13, 12 at the slot that has the name, 14, then 15 and 16.
+pub put-illegal : (k : Kind) (d : Density) (files : Files) (name : List ℕ) (type : ℕ) (content : List ℕ) → legalName (layoutOf k d) name ≡ false
+    → judgePut (layoutOf k d) files name type content ≡ refuse 11 0
+put-illegal k d = order.order-name (layoutOf k d)
+
+pub put-type : (k : Kind) (d : Density) (files : Files) (name : List ℕ) (type : ℕ) (content : List ℕ) → legalName (layoutOf k d) name ≡ true → legalType (layoutOf k d) type ≡ false
+    → judgePut (layoutOf k d) files name type content ≡ refuse 11 0
+put-type k d = order.order-type (layoutOf k d)
+
+pub put-empty : (k : Kind) (d : Density) (files : Files) (name : List ℕ) (type : ℕ) (content : List ℕ) → legalName (layoutOf k d) name ≡ true → legalType (layoutOf k d) type ≡ true
+    → length content ≡ 0 → judgePut (layoutOf k d) files name type content ≡ refuse 13 0
+put-empty k d = order.order-empty (layoutOf k d)
+
+pub put-taken : (k : Kind) (d : Density) (files : Files) (name : List ℕ) (type : ℕ) (content : List ℕ) → legalName (layoutOf k d) name ≡ true → legalType (layoutOf k d) type ≡ true
+    → (length content ≡ 0 → ⊥) → {s : ℕ} → slotOf (layoutOf k d) files name ≡ At s → judgePut (layoutOf k d) files name type content ≡ refuse 12 s
+put-taken k d = order.order-taken (layoutOf k d)
+
+pub put-full : (k : Kind) (d : Density) (files : Files) (name : List ℕ) (type : ℕ) (content : List ℕ) → legalName (layoutOf k d) name ≡ true → legalType (layoutOf k d) type ≡ true
+    → (length content ≡ 0 → ⊥) → slotOf (layoutOf k d) files name ≡ Nowhere → emptySlot (layoutOf k d) files ≡ Nowhere → judgePut (layoutOf k d) files name type content ≡ refuse 14 0
+put-full k d = order.order-full (layoutOf k d)
+
+pub put-room : (k : Kind) (d : Density) (files : Files) (name : List ℕ) (type : ℕ) (content : List ℕ) → legalName (layoutOf k d) name ≡ true → legalType (layoutOf k d) type ≡ true
+    → (length content ≡ 0 → ⊥) → {s : ℕ} → slotOf (layoutOf k d) files name ≡ Nowhere → emptySlot (layoutOf k d) files ≡ At s
+    → judgePut (layoutOf k d) files name type content ≡ roomFor (free (layoutOf k d) files) (length content) s
+put-room k d = order.order-room (layoutOf k d)
 
 -- ---- Demand 2: accepted exactly when the disk rules hold
 
@@ -191,6 +221,11 @@ label-kept = outside.label-kept
 pub result-tells : (k : Kind) (d : Density) (f n : ℕ) (img : List ℕ) → checkOf img ≡ Accepted k d f n → (t : CTurn) → Told img t
     → let u = turnIn (layoutOf k d) img t in Made img (u .call) (u .answer) (u .output) (u .after)
 result-tells = sequence.told-made
+
+-- ---- The listing program's text: that of the check's and list's answers, though it keeps the first 5,120 bytes alone
+
+pub listing-lines : (img : List ℕ) → linesOf (take 5120 img) (length img) ≡ listingOf (callOf img check .answer) (λ s. callOf img (list s) .answer)
+listing-lines = listings.lines-of
 
 -- ---- The worked disks and words P1 to P13
 
