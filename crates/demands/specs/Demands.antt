@@ -4,7 +4,7 @@
 --   Call, Answer and stepFiles (record/specs/Record): the plain record, and a call on it; callOf and Made (rules/specs/Check): a call on any bytes;
 --   Kept (rules/specs/Demand), Pages to Joins (record/specs/Download): demand 3; TouchedBy (rules/specs/Outside): what a call may change;
 --   unpackOf and packOf (samples/specs/Samples), SampleRules (samples/specs/Rules), programOf and ProgramRules (program/specs/Program): the files;
---   Told and turnIn (skilletjay/specs/Told): C's results; listingOf (listing/specs/Listing): the listing program's text. That the code does so is what each function's contract says. Assumes nothing.
+--   toldOf and turnIn (skilletjay/specs/Told): C's results; listingOf (listing/specs/Listing): the listing program's text. That the code does so is what each function's contract says. Assumes nothing.
 use mathlib.Core.Path.{_≡_}
 use mathlib.Core.Bool.{true, false}
 use mathlib.Core.List.{List, _++_}
@@ -65,7 +65,7 @@ use Rattle.listing.specs.Lines.{linesOf}
 use Rattle.listing.specs.Lines as listings
 use Rattle.table.specs.Table.{rows, All}
 use Rattle.table.specs.Table as table
-use Rattle.skilletjay.specs.Told.{CTurn, Told, turnIn, CRan, turnsIn}
+use Rattle.skilletjay.specs.Told.{CTurn, toldOf, turnIn, CRan, turnsIn}
 use Rattle.skilletjay.specs.Sequence as sequence
 use Rattle.skilletjay.specs.Counted.{Counting, lentTo, countingOf}
 use Rattle.skilletjay.specs.Counted as counting
@@ -218,8 +218,8 @@ label-kept = outside.label-kept
 
 -- ---- What C gets: each result tells the record's answer whole
 
-pub result-tells : (k : Kind) (d : Density) (f n : ℕ) (img : List ℕ) → checkOf img ≡ Accepted k d f n → (t : CTurn) → Told img t
-    → let u = turnIn (layoutOf k d) img t in Made img (u .call) (u .answer) (u .output) (u .after)
+pub result-tells : (k : Kind) (d : Density) (f n : ℕ) (img : List ℕ) → checkOf img ≡ Accepted k d f n → (t : CTurn)
+    → let u = turnIn (layoutOf k d) img t in t ≡ toldOf img (u .call) → Made img (u .call) (u .answer) (u .output) (u .after)
 result-tells = sequence.told-made
 
 -- ---- The listing program's text: that of the check's and list's answers, though it keeps the first 5,120 bytes alone

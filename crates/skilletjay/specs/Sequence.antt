@@ -33,7 +33,7 @@ use Rattle.rules.specs.Small.{Numbered, refusal-numbered}
 use Rattle.rules.specs.Demand.{call-is, Ran, Behaves, demand-3}
 use Rattle.calls.specs.Lemmas.Slots.{slotFile, file-above, file-empty, file-used}
 use Rattle.skilletjay.specs.Results.{checkedResult, listedResult, foundResult, pagedResult, doneResult}
-use Rattle.skilletjay.specs.Told.{CTurn, checked, listed, found, paged, placed, removed, Told, refusalIn, checkedIn, listedIn, foundIn, pagedIn, doneIn, turnIn, CRan, turnsIn}
+use Rattle.skilletjay.specs.Told.{CTurn, checked, listed, found, paged, placed, removed, toldOf, refusalIn, checkedIn, listedIn, foundIn, pagedIn, doneIn, turnIn, CRan, turnsIn}
 
 -- ---- each answer is what the result tells of it
 
@@ -115,29 +115,38 @@ module _ (k : Kind) (d : Density) (f n : ℕ) (img : List ℕ) (accepts : checkO
   state-is c = ap (λ (o : Outcome (List ℕ)). o .state) (is c)
 
   -- Each C result determines the record's answer.
-  pub told-made : (t : CTurn) → Told img t → let u = turnIn l img t in Made img (u .call) (u .answer) (u .output) (u .after)
+  pub told-made : (t : CTurn) → let u = turnIn l img t in t ≡ toldOf img (u .call) → Made img (u .call) (u .answer) (u .output) (u .after)
   unfolding stepFiles imageAfter
-  told-made (checked r) e = by check (ap checkedIn (e ∙ ap checkedResult (answer-is check))) refl refl
+  told-made (checked r) e = let z : r ≡ checkedResult (callOf img check .answer) = cc in by check (ap checkedIn (z ∙ ap checkedResult (answer-is check))) refl refl
   told-made (listed s r) e =
       let files = filesIn l img in
-      by (list s) (ap (listedIn l) (e ∙ ap listedResult (answer-is (list s))) ∙ listed-back files l (fileAt l files s) (name-long s)) (sym (list-output files (fileAt l files s))) refl
+      let z : r ≡ listedResult (callOf img (list s) .answer) = cc in
+      by (list s) (ap (listedIn l) (z ∙ ap listedResult (answer-is (list s))) ∙ listed-back files l (fileAt l files s) (name-long s)) (sym (list-output files (fileAt l files s))) refl
   told-made (found name r) e =
       let files = filesIn l img in
       let j = judgeName l files name in
-      by (find name) (ap foundIn (e ∙ ap foundResult (answer-is (find name))) ∙ found-back files j (numbered (find name))) (sym (find-output files j)) refl
+      let z : r ≡ foundResult (callOf img (find name) .answer) = cc in
+      by (find name) (ap foundIn (z ∙ ap foundResult (answer-is (find name))) ∙ found-back files j (numbered (find name))) (sym (find-output files j)) refl
   told-made (paged s offset lent r out) e =
       let files = filesIn l img in
-      by (page s offset lent) (ap pagedIn (e .0 ∙ ap pagedResult (answer-is (page s offset lent))) ∙ paged-back files (fileAt l files s) offset lent) (e .1 ∙ output-is (page s offset lent)) refl
+      let c = page s offset lent in
+      let z : r ≡ pagedResult (callOf img c .answer) = cc in
+      let o : out ≡ callOf img c .output = cc in
+      by c (ap pagedIn (z ∙ ap pagedResult (answer-is c)) ∙ paged-back files (fileAt l files s) offset lent) (o ∙ output-is c) refl
   told-made (placed name type content r after) e =
       let files = filesIn l img in
       let j = judgePut l files name type content in
       let c = put name type content in
-      by c (ap foundIn (e .0 ∙ ap foundResult (answer-is c)) ∙ placed-back files _ j (numbered c)) (sym (put-output files _ j)) (e .1 ∙ state-is c)
+      let z : r ≡ foundResult (callOf img c .answer) = cc in
+      let o : after ≡ callOf img c .state = cc in
+      by c (ap foundIn (z ∙ ap foundResult (answer-is c)) ∙ placed-back files _ j (numbered c)) (sym (put-output files _ j)) (o ∙ state-is c)
   told-made (removed name r after) e =
       let files = filesIn l img in
       let j = judgeName l files name in
       let c = remove name in
-      by c (ap doneIn (e .0 ∙ ap doneResult (answer-is c)) ∙ removed-back files _ j (numbered c)) (sym (remove-output files _ j)) (e .1 ∙ state-is c)
+      let z : r ≡ doneResult (callOf img c .answer) = cc in
+      let o : after ≡ callOf img c .state = cc in
+      by c (ap doneIn (z ∙ ap doneResult (answer-is c)) ∙ removed-back files _ j (numbered c)) (sym (remove-output files _ j)) (o ∙ state-is c)
 
 -- ---- sequences
 

@@ -11,7 +11,7 @@ use Rattle.laws.specs.Truth.{pick}
 use Rattle.laws.specs.declared.Refusal.{Refusal}
 use Rattle.laws.specs.Refusals.{refusalAt}
 use Rattle.layout.specs.declared.Layout.{Layout}
-use Rattle.record.specs.Record.{check, list, find, page, put, remove, Answer, Turn}
+use Rattle.record.specs.Record.{Call, check, list, find, page, put, remove, Answer, Turn}
 use Rattle.rules.specs.Check.{callOf}
 use Rattle.skilletjay.specs.declared.CChecked.{CChecked}
 use Rattle.skilletjay.specs.declared.CListed.{CListed}
@@ -31,14 +31,14 @@ pub data CTurn : Type 0 where
   placed : List ℕ → ℕ → List ℕ → CFound → List ℕ → CTurn
   removed : List ℕ → CDone → List ℕ → CTurn
 
--- What each of the functions promises on an image: its result, and all that it writes to. src/lib.rt has these as contracts.
-abbrev pub Told : List ℕ → CTurn → Type 0
-Told img (checked r) = r ≡ checkedResult (callOf img check .answer)
-Told img (listed slot r) = r ≡ listedResult (callOf img (list slot) .answer)
-Told img (found name r) = r ≡ foundResult (callOf img (find name) .answer)
-Told img (paged slot offset lent r out) = (r ≡ pagedResult (callOf img (page slot offset lent) .answer)) × (out ≡ callOf img (page slot offset lent) .output)
-Told img (placed name type content r after) = (r ≡ foundResult (callOf img (put name type content) .answer)) × (after ≡ callOf img (put name type content) .state)
-Told img (removed name r after) = (r ≡ doneResult (callOf img (remove name) .answer)) × (after ≡ callOf img (remove name) .state)
+-- What a call of C's functions comes to on an image: its result, and what it leaves. Each function's contract is that the call made is this one.
+abbrev pub toldOf : List ℕ → Call → CTurn
+toldOf img check = checked (checkedResult (callOf img check .answer))
+toldOf img (list slot) = listed slot (listedResult (callOf img (list slot) .answer))
+toldOf img (find name) = found name (foundResult (callOf img (find name) .answer))
+toldOf img (page slot offset lent) = paged slot offset lent (pagedResult (callOf img (page slot offset lent) .answer)) (callOf img (page slot offset lent) .output)
+toldOf img (put name type content) = placed name type content (foundResult (callOf img (put name type content) .answer)) (callOf img (put name type content) .state)
+toldOf img (remove name) = removed name (doneResult (callOf img (remove name) .answer)) (callOf img (remove name) .state)
 
 -- ---- the answer that a result tells
 
@@ -83,7 +83,7 @@ turnIn l img (removed name r after) = record { call = remove name; answer = done
 -- A sequence of such calls, each on the image that the one before it left.
 abbrev pub CRan : Layout → List ℕ → List CTurn → Type 0
 CRan l img [] = Unit {0}
-CRan l img (t ∷ ts) = Told img t × CRan l (turnIn l img t .after) ts
+CRan l img (t ∷ ts) = (t ≡ toldOf img (turnIn l img t .call)) × CRan l (turnIn l img t .after) ts
 
 abbrev pub turnsIn : Layout → List ℕ → List CTurn → List Turn
 turnsIn l img [] = []

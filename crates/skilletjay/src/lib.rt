@@ -1,13 +1,13 @@
 // The C interface (include/skilletjay.h): each call takes any bytes, and promises every field of its result and every byte of a lent output.
 ghost use mathlib.Core.Path.{_≡_};
-ghost use Rattle.record.specs.Record.{check, kindNumber, densityNumber};
+ghost use Rattle.record.specs.Record.{check, list, find, page, put, remove, kindNumber, densityNumber};
 ghost use Rattle.rules.specs.Check.{answerOf};
 ghost use Rattle.calls.specs.Answers.{foundOf, pagedOf, listedOf, removedOf};
 ghost use Rattle.locate.specs.Locate.{blocksOf};
 ghost use Rattle.session.specs.Script.{afterRun, runOf};
 ghost use Rattle.samples.specs.Samples.{unpackOf, packOf};
 ghost use Rattle.program.specs.Program.{programOf};
-ghost use Rattle.skilletjay.specs.Told.{Told, checked, listed, found, paged, placed, removed};
+ghost use Rattle.skilletjay.specs.Told.{toldOf, checked, listed, found, paged, placed, removed};
 ghost use Rattle.skilletjay.specs.Results.{checkedResult, listedWith, foundResult, pagedResult, doneResult, countedResult};
 use samples::Sampler;
 
@@ -216,7 +216,7 @@ fn counted_result(counted: laws::Counted) -> CCounted
 // Whether an image is accepted: refusals 1 to 9. The image is lent and kept.
 #[no_mangle]
 pub extern "C" fn sj_check(image: &[u8]) -> CChecked
-    ensures { λ r. ⌜ Told (now (image .entry)) (checked r) ⌝ }
+    ensures { λ r. ⌜ checked r ≡ toldOf (now (image .entry)) check ⌝ }
 {
     checked_result(disk::check(image))
 }
@@ -224,7 +224,7 @@ pub extern "C" fn sj_check(image: &[u8]) -> CChecked
 // What a slot holds: refusals 1 to 9, then 10 if it is empty or not there. The image is lent and kept.
 #[no_mangle]
 pub extern "C" fn sj_list(image: &[u8], slot: usize) -> CListed
-    ensures { λ r. ⌜ Told (now (image .entry)) (listed slot r) ⌝ }
+    ensures { λ r. ⌜ listed slot r ≡ toldOf (now (image .entry)) (list slot) ⌝ }
 {
     listed_result(calls::list(image, slot))
 }
@@ -232,7 +232,7 @@ pub extern "C" fn sj_list(image: &[u8], slot: usize) -> CListed
 // The slot of the file with a name: refusals 1 to 9, then 11, then 10. Image and name are lent and kept.
 #[no_mangle]
 pub extern "C" fn sj_find(image: &[u8], name: &[u8]) -> CFound
-    ensures { λ r. ⌜ Told (now (image .entry)) (found (now (name .entry)) r) ⌝ }
+    ensures { λ r. ⌜ found (now (name .entry)) r ≡ toldOf (now (image .entry)) (find (now (name .entry))) ⌝ }
 {
     found_result(calls::find(image, name))
 }
@@ -241,7 +241,7 @@ pub extern "C" fn sj_find(image: &[u8], name: &[u8]) -> CFound
 // bytes are kept, and all of them on a refusal.
 #[no_mangle]
 pub extern "C" fn sj_page(image: &[u8], slot: usize, offset: usize, out: &mut [u8]) -> CPaged
-    ensures { λ r. ⌜ Told (now (image .entry)) (paged slot offset (now (out .entry)) r (now (out .exit))) ⌝ }
+    ensures { λ r. ⌜ paged slot offset (now (out .entry)) r (now (out .exit)) ≡ toldOf (now (image .entry)) (page slot offset (now (out .entry))) ⌝ }
 {
     paged_result(calls::page(image, slot, offset, out))
 }
@@ -260,7 +260,7 @@ pub extern "C" fn sj_blocks(image: &[u8], slot: usize, out: &mut [u16]) -> CCoun
 // name, 14, 15, 16. Name and content are lent and kept; so is the image on a refusal.
 #[no_mangle]
 pub extern "C" fn sj_put(image: &mut [u8], name: &[u8], letter: u8, content: &[u8]) -> CFound
-    ensures { λ r. ⌜ Told (now (image .entry)) (placed (now (name .entry)) letter (now (content .entry)) r (now (image .exit))) ⌝ }
+    ensures { λ r. ⌜ placed (now (name .entry)) letter (now (content .entry)) r (now (image .exit)) ≡ toldOf (now (image .entry)) (put (now (name .entry)) letter (now (content .entry))) ⌝ }
 {
     found_result(calls::put(image, name, letter, content))
 }
@@ -268,7 +268,7 @@ pub extern "C" fn sj_put(image: &mut [u8], name: &[u8], letter: u8, content: &[u
 // Removes the file with a name: refusals 1 to 9, then 11, then 10. The name is lent and kept; so is the image on a refusal.
 #[no_mangle]
 pub extern "C" fn sj_remove(image: &mut [u8], name: &[u8]) -> CDone
-    ensures { λ r. ⌜ Told (now (image .entry)) (removed (now (name .entry)) r (now (image .exit))) ⌝ }
+    ensures { λ r. ⌜ removed (now (name .entry)) r (now (image .exit)) ≡ toldOf (now (image .entry)) (remove (now (name .entry))) ⌝ }
 {
     done_result(calls::remove(image, name))
 }

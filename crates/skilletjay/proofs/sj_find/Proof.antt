@@ -3,15 +3,17 @@
 use mathlib.Core.Path.{_∙_, ap}
 use mathlib.Core.List.{List}
 use Prim.Native.Nat.{ℕ}
+use denote.Ref.{now}
 use borrow.Author.Needs.{needs}
 use Rattle.record.specs.Record.{Outcome}
+use Rattle.skilletjay.specs.Told.{found}
 use Rattle.skilletjay.specs.Results.{foundResult}
 use Rattle.skilletjay.proofs.sj_find.Statement.{statement}
 use Rattle.skilletjay.proofs.sj_find.Tie as tie
 
 returns : tie.Need-returns
 returns c =
-    c .found-result .ensures ∙ ap (λ (o : Outcome (List ℕ)). foundResult (o .answer)) (c .before .find .ensures)
+    ap (found (now (c .before .before .before .before .args .name))) (c .found-result .ensures ∙ ap (λ (o : Outcome (List ℕ)). foundResult (o .answer)) (c .before .find .ensures))
 
 pub sj-find-spec : {M : Type 1} → statement M
 sj-find-spec = tie.close (tie.spec (λ c κs. search needs) (λ c κs. search needs) returns)
