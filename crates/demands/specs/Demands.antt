@@ -4,7 +4,8 @@
 --   Call, Answer and stepFiles (record/specs/Record): the plain record, and a call on it; callOf and Made (rules/specs/Check): a call on any bytes;
 --   Kept (rules/specs/Demand), Pages to Joins (record/specs/Download): demand 3; TouchedBy (rules/specs/Outside): what a call may change;
 --   unpackOf and packOf (samples/specs/Samples), SampleRules (samples/specs/Rules), programOf and ProgramRules (program/specs/Program): the files;
---   toldOf and turnIn (skilletjay/specs/Told): C's results; listingOf (listing/specs/Listing): the listing program's text. That the code does so is what each function's contract says. Assumes nothing.
+--   toldOf and turnIn (skilletjay/specs/Told): C's results; listingOf (listing/specs/Listing): the listing program's text.
+-- That the code does so is what each function's contract says, and those are proved with it. Assumes nothing.
 use mathlib.Core.Path.{_≡_}
 use mathlib.Core.Bool.{true, false}
 use mathlib.Core.List.{List, _++_}
