@@ -1,21 +1,15 @@
--- The number, place and values of each public call's answer, as the record's answer; and what a call comes to by the check's answer.
--- A refused image answers the check's refusal; an accepted one what the record says. Assumes nothing.
-use mathlib.Core.Path.{_≡_, refl, sym}
+-- The number, place and values of each public call's answer, as the record's answer. Assumes nothing.
+use mathlib.Core.Path.{_≡_}
 use mathlib.Core.List.{List, []}
 use Prim.Native.Nat.{ℕ}
 use lib.ListN.{length, take, replicate}
 use Rattle.laws.specs.Padded.{padded}
-use Rattle.laws.specs.Lemmas.Padded.{padded-nil}
-use Rattle.layout.specs.declared.Kind.{Kind}
-use Rattle.layout.specs.declared.Density.{Density}
-use Rattle.record.specs.Record.{shapeOf, Call, list, find, page, put, remove, Answer, entry, valued, paged, done, refusedBy, Outcome}
+use Rattle.record.specs.Record.{Call, list, find, page, put, remove, Answer, entry, valued, paged, done, refusedBy, Outcome}
 use Rattle.record.specs.declared.Judged.{Judged}
 use Rattle.record.specs.declared.Judged.the-variants.{Refuse, Grant}
-use Rattle.record.specs.Step.{stepImage}
 use Rattle.laws.specs.declared.Refusal.{Refusal}
-use Rattle.rules.specs.declared.Checked.{Checked}
-use Rattle.rules.specs.declared.Checked.the-variants.{Accepted, Refused}
-use Rattle.rules.specs.Check.{checkOf, refusalOf, lent, came, callOf}
+use Rattle.rules.specs.declared.Checked.the-variants.{Refused}
+use Rattle.rules.specs.Check.{came}
 use Rattle.calls.specs.declared.Found.{Found}
 use Rattle.calls.specs.declared.Found.the-variants as found
 use Rattle.calls.specs.declared.Paged.{Paged}
@@ -84,17 +78,3 @@ putCall name type content = put name type content
 
 abbrev pub removeCall : List ℕ → Call
 removeCall name = remove name
-
--- ---- by the check's answer
-
-pub call-refused : (img : List ℕ) (call : Call) {c : Checked} {r q : Refusal} → c ≡ checkOf img → c ≡ Refused r → q ≡ refusalOf c → came (refusedBy q) (lent call) img ≡ callOf img call
-unfolding callOf
-call-refused img call e t u = rw (← e, u, t) refl
-
-pub call-accepted : (img : List ℕ) (call : Call) {c : Checked} {k : Kind} {d : Density} {f n : ℕ} → c ≡ checkOf img → c ≡ Accepted k d f n → callOf img call ≡ stepImage (shapeOf k d) img call
-unfolding callOf
-call-accepted img call e a = rw (← e, a) refl
-
--- a listing of a refused image
-pub lists-refused : (img : List ℕ) (s : ℕ) {c : Checked} {r q : Refusal} {w : Listed} → c ≡ checkOf img → c ≡ Refused r → q ≡ refusalOf c → w ≡ unlistedBy q → Lists img (callOf img (list s)) w
-lists-refused img s e t u v = rw (v, ← call-refused img (list s) e t u) (record { answer = refl; letters = refl; name = sym (padded-nil 12) })

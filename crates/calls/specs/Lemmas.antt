@@ -5,3 +5,4 @@ pub mod Listing
 pub mod Finding
 pub mod Paging
 pub mod Putting
+pub mod Answers

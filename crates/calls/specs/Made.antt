@@ -3,7 +3,7 @@
 use mathlib.Core.Path.{_≡_, refl, sym, ap, _∙_}
 use mathlib.Core.List.{List, []}
 use Prim.Native.Nat.{ℕ}
-use Rattle.record.specs.Record.{shapeOf, Call, check, list, find, page, put, remove, Answer, Outcome}
+use Rattle.record.specs.Record.{check, list, find, page, put, remove, Outcome}
 use Rattle.record.specs.Step.{stepImage}
 use Rattle.rules.specs.declared.Checked.{Checked}
 use Rattle.rules.specs.declared.Checked.the-variants.{Accepted, Refused}
@@ -13,7 +13,8 @@ use Rattle.calls.specs.declared.Found.{Found}
 use Rattle.calls.specs.declared.Paged.{Paged}
 use Rattle.calls.specs.declared.Listed.{Listed}
 use Rattle.calls.specs.declared.Removed.{Removed}
-use Rattle.calls.specs.Answers.{foundOf, pagedOf, listedOf, removedOf, Lists, call-refused, call-accepted}
+use Rattle.calls.specs.Answers.{foundOf, pagedOf, listedOf, removedOf, Lists}
+use Rattle.calls.specs.Lemmas.Answers.{call-refused, call-accepted}
 
 abbrev pub FindMade : List ℕ → List ℕ → Found → Type 0
 FindMade img name r = Made img (find name) (foundOf r) [] img

@@ -1,6 +1,5 @@
--- The image that a put leaves, by the name's area; and what put and remove of a slot need.
--- Assumes nothing.
-use mathlib.Core.Path.{_≡_, refl}
+-- What put writes of an entry, and what it needs. Assumes nothing.
+use mathlib.Core.Path.{_≡_}
 use mathlib.Core.List.{List}
 use Prim.Native.Nat.{ℕ, _≤_, _<_}
 use lib.ListN.{length}
@@ -9,10 +8,9 @@ use Rattle.layout.specs.declared.Layout.{Layout}
 use Rattle.layout.specs.Layouts.{imageLength, slotOffset}
 use Rattle.layout.specs.Right.{LayoutRight}
 use Rattle.blocks.specs.Blocks.{blocksFor}
-use Rattle.names.specs.Names.{areaOf}
 use Rattle.map.specs.Map.{mapAt, freeBlocks, firstOr}
 use Rattle.view.specs.Disk.{Entry}
-use Rattle.image.specs.Image.{setEntry, fillBlocks, chosen, putImage}
+use Rattle.image.specs.Image.{setEntry, fillBlocks, chosen}
 
 abbrev pub entryWith : List ℕ → ℕ → ℕ → ℕ → Entry
 entryWith area type size start = record { area = area; type = type; size = size; start = start }
@@ -23,11 +21,6 @@ unfolding setEntry fillBlocks chosen firstOr
 putArea l img s area type content =
     let ks = chosen l (mapAt (bytes img)) (length content) in
     setEntry (fillBlocks l img ks content) (slotOffset l s) (entryWith area type (length content) (firstOr ks 0))
-
--- with a name's area it is put's image
-pub put-area : (l : Layout) (img : List ℕ) (s : ℕ) (name : List ℕ) (type : ℕ) (content : List ℕ) → putArea l img s (areaOf l name) type content ≡ putImage l img s name type content
-unfolding putArea putImage
-put-area l img s name type content = refl
 
 -- What a put of some content into a slot needs: the image's length, a slot, some content and as many free blocks as it needs.
 pub record Puttable (l : Layout) (img : List ℕ) (s : ℕ) (content : List ℕ) : Type 0 where

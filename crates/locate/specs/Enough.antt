@@ -35,7 +35,7 @@ use Rattle.map.specs.Lemmas.Chains.{length-chain, chain-cong, chain-data, chain
 use Rattle.view.specs.Disk.{File, used, entryChain, chainOf, contentOf, filesOf}
 use Rattle.image.specs.Image.{viewOf, filesIn, DiskRules}
 use Rattle.record.specs.Record.{Call, list, find, page, refusedBy, Outcome, named, refuseIf, orRefuse, slotOf, fileAt, judgeName, listing, paging}
-use Rattle.record.specs.Step.{list-output}
+use Rattle.record.specs.Lemmas.Step.{list-output}
 use Rattle.record.specs.declared.Judged.{Judged}
 use Rattle.record.specs.declared.Judged.the-variants.{Grant}
 use Rattle.rules.specs.declared.Checked.{Checked}
@@ -43,7 +43,8 @@ use Rattle.rules.specs.declared.Checked.the-variants.{Accepted, Refused}
 use Rattle.rules.specs.Check.{checkOf, refusalOf, callOf}
 use Rattle.rules.specs.Accepted.{accepted-rules}
 use Rattle.rules.specs.Head.{Read, read-head, head-agree, head-decides, same-map, same-entry}
-use Rattle.calls.specs.Answers.{foundOf, foundBy, call-refused}
+use Rattle.calls.specs.Answers.{foundOf, foundBy}
+use Rattle.calls.specs.Lemmas.Answers.{call-refused}
 use Rattle.calls.specs.Lemmas.Slots.{file-above, file-empty, file-used, file-length}
 use Rattle.calls.specs.Lemmas.Done.{list-done, find-done, page-done}
 use Rattle.locate.specs.Locate.{fileBlocks, storing, blocksBy, blocksOf}

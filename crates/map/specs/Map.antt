@@ -15,11 +15,6 @@ use Rattle.layout.specs.declared.Layout.{Layout}
 use Rattle.layout.specs.Layouts.{mapOffset}
 use Rattle.blocks.specs.Numbers.{number, digits}
 use Rattle.map.specs.declared.Blocks.{Blocks}
-use Prim.Native.Nat.{ℕ, _≤_, _<_}
-use mathlib.Core.Bool.{Bool, false}
-use mathlib.Core.List.{List}
-use Prim.Native.Nat.{ℕ, _<_}
-use lib.ListN.{length, getD}
 use Rattle.laws.specs.Member.{has}
 
 -- The map value of a block.
@@ -146,11 +141,11 @@ unfoldable pub marked : List Bool → List ℕ → List Bool
 marked ms [] = ms
 marked ms (b ∷ bs) = marked (set ms b true) bs
 
--- and those outside the map of n blocks
+-- A byte that lies outside the map of n blocks.
 abbrev pub Outside : ℕ → ℕ → Type 0
 Outside n i = (i < mapOffset 0) ⊎ (mapOffset n ≤ i)
 
--- below n the marks are those of the blocks xs
+-- Below n the marks are those of the blocks xs.
 pub record Marks (n : ℕ) (ms : List Bool) (xs : List ℕ) : Type 0 where
   pub size : length ms ≡ n
   pub mark : (b : ℕ) → b < n → getD ms b false ≡ has xs b

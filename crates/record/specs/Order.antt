@@ -16,7 +16,7 @@ use Rattle.names.specs.Names.{legalName, legalType}
 use Rattle.view.specs.Disk.{File}
 use Rattle.record.specs.Record.{Shape, Files, list, page, refused, refuse, refuseIf, slotOf, emptySlot, free, judgeName, judgePut, fileAt, stepFiles}
 use Rattle.record.specs.declared.Judged.{Judged}
-use Rattle.record.specs.declared.Judged.the-variants.{Refuse, Grant}
+use Rattle.record.specs.declared.Judged.the-variants.{Grant}
 
 -- ---- find and remove
 

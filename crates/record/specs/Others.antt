@@ -14,7 +14,8 @@ use Rattle.record.specs.Record.{Shape, Files, Call, check, list, find, p
 use Rattle.record.specs.declared.Judged.{Judged}
 use Rattle.record.specs.declared.Judged.the-variants.{Refuse, Grant}
 use Rattle.record.specs.Lemmas.Granted.{granted-name, granted-put}
-use Rattle.record.specs.Step.{Reading, reads-check, reads-list, reads-find, reads-page, reading-keeps}
+use Rattle.record.specs.Step.{Reading, reads-check, reads-list, reads-find, reads-page}
+use Rattle.record.specs.Lemmas.Step.{reading-keeps}
 
 module _ (shape : Shape) (files : Files) (t : ℕ) (f : File) (there : files t ≡ some f) where
   abbrev l : Layout

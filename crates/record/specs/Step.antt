@@ -1,20 +1,11 @@
--- One call on an image that meets the disk rules: it meets them afterwards, and its files are the record's after the same call.
--- By cases on the call and on the record's judgement. Assumes nothing.
-use mathlib.Core.Path.{_≡_, refl, sym, ap, _∙_}
-use mathlib.Core.Bool.{Bool, true, false}
-use mathlib.Core.List.{List, []}
-use mathlib.Core.Option.{Option, none, some}
+-- What a call comes to on an image that meets the disk rules. Assumes nothing.
+use mathlib.Core.List.{List}
 use Prim.Native.Nat.{ℕ}
-use lib.Dec.{ltb}
-use lib.ListN.{length}
 use Rattle.layout.specs.declared.Layout.{Layout}
-use Rattle.layout.specs.Right.{LayoutRight}
-use Rattle.view.specs.Disk.{File}
-use Rattle.image.specs.Image.{filesIn, DiskRules, removeImage, putImage}
-use Rattle.record.specs.Record.{Shape, Files, Call, check, list, find, page, put, remove, Outcome, judgeName, judgePut, fileAt, finding, listing, paging, putting, removing, stepFiles}
+use Rattle.image.specs.Image.{filesIn, removeImage, putImage}
+use Rattle.record.specs.Record.{Shape, Call, check, list, find, page, put, remove, Outcome, judgeName, judgePut, stepFiles}
 use Rattle.record.specs.declared.Judged.{Judged}
 use Rattle.record.specs.declared.Judged.the-variants.{Refuse, Grant}
-use Rattle.record.specs.Lemmas.Update.{remove-rules, remove-files, put-rules, put-files}
 
 -- The image that a judged call leaves.
 abbrev pub after : List ℕ → (ℕ → List ℕ) → Judged → List ℕ
@@ -37,95 +28,9 @@ stepImage shape img c =
     let o = stepFiles shape (filesIn (shape .layout) img) c in
     record { answer = o .answer; output = o .output; state = imageAfter (shape .layout) img c }
 
--- ---- only a page has an output
-
-module _ {S : Type 0} (state : S) where
-  pub list-output : (w : Option File) → listing state w .output ≡ []
-  list-output none = refl
-  list-output (some f) = refl
-
-  pub find-output : (j : Judged) → finding state j .output ≡ []
-  find-output (Refuse r) = refl
-  find-output (Grant s) = refl
-
-  pub put-output : (next : ℕ → S) (j : Judged) → putting state next j .output ≡ []
-  put-output next (Refuse r) = refl
-  put-output next (Grant s) = refl
-
-  pub remove-output : (next : ℕ → S) (j : Judged) → removing state next j .output ≡ []
-  remove-output next (Refuse r) = refl
-  remove-output next (Grant s) = refl
-
--- ---- calls that only read keep the record's files
-
-module _ (files : Files) where
-  finding-keeps : (j : Judged) → finding files j .state ≡ files
-  finding-keeps (Refuse r) = refl
-  finding-keeps (Grant s) = refl
-
-  listing-keeps : (f : Option File) → listing files f .state ≡ files
-  listing-keeps none = refl
-  listing-keeps (some f) = refl
-
-  paging-keeps : (f : Option File) (offset : ℕ) (out : List ℕ) → paging files f offset out .state ≡ files
-  paging-keeps none offset out = refl
-  paging-keeps (some f) offset out = go (ltb (length (f .content)) offset) refl
-    where
-      go : (t : Bool) → ltb (length (f .content)) offset ≡ t → paging files (some f) offset out .state ≡ files
-      go true e = rw e refl
-      go false e = rw e refl
-
 -- The calls that only read.
 pub data Reading : Call → Type 0 where
   reads-check : Reading check
   reads-list : (s : ℕ) → Reading (list s)
   reads-find : (name : List ℕ) → Reading (find name)
   reads-page : (s offset : ℕ) (out : List ℕ) → Reading (page s offset out)
-
-pub reading-keeps : (shape : Shape) (files : Files) (c : Call) → Reading c → stepFiles shape files c .state ≡ files
-unfolding stepFiles
-reading-keeps shape files check reads-check = refl
-reading-keeps shape files (list s) (reads-list _) = listing-keeps files (fileAt (shape .layout) files s)
-reading-keeps shape files (find name) (reads-find _) = finding-keeps files (judgeName (shape .layout) files name)
-reading-keeps shape files (page s offset out) (reads-page _ _ _) = paging-keeps files (fileAt (shape .layout) files s) offset out
-
--- ---- one call
-
-pub record Step (shape : Shape) (img : List ℕ) (c : Call) : Type 0 where
-  pub rules : DiskRules (shape .layout) (imageAfter (shape .layout) img c)
-  pub files : (t : ℕ) → filesIn (shape .layout) (imageAfter (shape .layout) img c) t ≡ stepFiles shape (filesIn (shape .layout) img) c .state t
-
-module _ (shape : Shape) (right : LayoutRight (shape .layout)) (img : List ℕ) (rules : DiskRules (shape .layout) img) where
-  abbrev l : Layout
-  l = shape .layout
-
-  put-step : (name : List ℕ) (type : ℕ) (content : List ℕ) (j : Judged) → judgePut l (filesIn l img) name type content ≡ j → Step shape img (put name type content)
-  unfolding imageAfter stepFiles
-  put-step name type content (Refuse r) e = record { rules = rw e rules; files = λ t. rw e refl }
-  put-step name type content (Grant s) e = record {
-    rules = rw e (put-rules l right img rules name type content s e);
-    files = λ t. rw e (put-files l right img rules name type content s e t);
-  }
-
-  remove-step : (name : List ℕ) (j : Judged) → judgeName l (filesIn l img) name ≡ j → Step shape img (remove name)
-  unfolding imageAfter stepFiles
-  remove-step name (Refuse r) e = record { rules = rw e rules; files = λ t. rw e refl }
-  remove-step name (Grant s) e = record {
-    rules = rw e (remove-rules l right img rules name s e);
-    files = λ t. rw e (remove-files l right img rules name s e t);
-  }
-
-  reading-step : (c : Call) → Reading c → imageAfter l img c ≡ img → Step shape img c
-  reading-step c r e = record {
-    rules = rw e rules;
-    files = λ t. ap (λ (x : List ℕ). filesIn l x t) e ∙ ap (λ (f : Files). f t) (sym (reading-keeps shape (filesIn l img) c r));
-  }
-
-  pub step : (c : Call) → Step shape img c
-  unfolding imageAfter
-  step check = reading-step check reads-check refl
-  step (list s) = reading-step (list s) (reads-list s) refl
-  step (find name) = reading-step (find name) (reads-find name) refl
-  step (page s offset out) = reading-step (page s offset out) (reads-page s offset out) refl
-  step (put name type content) = put-step name type content (judgePut l (filesIn l img) name type content) refl
-  step (remove name) = remove-step name (judgeName l (filesIn l img) name) refl

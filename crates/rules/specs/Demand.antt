@@ -37,7 +37,8 @@ use Rattle.record.specs.declared.Judged.{Judged}
 use Rattle.record.specs.declared.Judged.the-variants.{Refuse, Grant}
 use Rattle.record.specs.Order.{roomFor, order-room}
 use Rattle.record.specs.Lemmas.Update.{area-split, free-is}
-use Rattle.record.specs.Step.{imageAfter, stepImage, step}
+use Rattle.record.specs.Step.{imageAfter, stepImage}
+use Rattle.record.specs.Lemmas.Step.{step}
 use Rattle.record.specs.Others as record-others
 use Rattle.record.specs.Download as record-download
 use Rattle.record.specs.Download.{Pages, own, nothing, got, Asked, Spared, Joins, Answered}

@@ -16,7 +16,8 @@ use Rattle.layout.specs.Right.{layout-right}
 use Rattle.map.specs.Map.{Outside}
 use Rattle.image.specs.Outside.{Within, InMap}
 use Rattle.record.specs.Record.{shapeOf, Call}
-use Rattle.record.specs.Step.{stepImage, step}
+use Rattle.record.specs.Step.{stepImage}
+use Rattle.record.specs.Lemmas.Step.{step}
 use Rattle.record.specs.Outside.{Touches, Changeable, step-outside, touches-where, system-fixed, identity-fixed, reserved-fixed}
 use Rattle.rules.specs.declared.Checked.{Checked}
 use Rattle.rules.specs.declared.Checked.the-variants.{Accepted, Refused}

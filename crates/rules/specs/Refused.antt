@@ -14,7 +14,8 @@ use Rattle.image.specs.Image.{filesIn}
 use Rattle.record.specs.Record.{Shape, shapeOf, Files, Call, check, list, find, page, put, remove, judgeName, judgePut, fileAt, paging, putting, removing}
 use Rattle.record.specs.declared.Judged.{Judged}
 use Rattle.record.specs.declared.Judged.the-variants.{Refuse, Grant}
-use Rattle.record.specs.Step.{list-output, find-output, put-output, remove-output, after, stepImage}
+use Rattle.record.specs.Lemmas.Step.{list-output, find-output, put-output, remove-output}
+use Rattle.record.specs.Step.{after, stepImage}
 use Rattle.rules.specs.declared.Checked.{Checked}
 use Rattle.rules.specs.declared.Checked.the-variants.{Accepted, Refused}
 use Rattle.rules.specs.Check.{checkOf, lent, callOf}

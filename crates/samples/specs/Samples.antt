@@ -2,7 +2,7 @@
 -- One definition serves both samplers; they differ in sizes, offsets, tables and the form of the data. Assumes nothing.
 use mathlib.Core.Bool.{Bool, true, not}
 use mathlib.Core.List.{List, _++_, map}
-use Prim.Native.Nat.{ℕ, _+_, _*_, _/_, _%_}
+use Prim.Native.Nat.{ℕ, _+_, _*_, _/_, _%_, _<_}
 use lib.Dec.{ltb, eqb}
 use lib.IntN.{ℤ, pos}
 use lib.ListN.{length, take, drop, getD}
@@ -24,13 +24,7 @@ use Rattle.laws.specs.Refusals.{Filled, filled, unless}
 use Rattle.words.specs.Words.{parts, wordOf, holds, bitsAt, packed900, unpacked900}
 use Rattle.samples.specs.declared.Sampler.{Sampler}
 use Rattle.samples.specs.declared.Sampler.the-variants.{S900, S1000}
-use Prim.Native.Nat.{ℕ}
 use mathlib.Core.Path.{_≡_}
-use mathlib.Core.Bool.{true}
-use mathlib.Core.List.{List}
-use Prim.Native.Nat.{ℕ, _<_}
-use lib.ListN.{length, getD}
-use lib.ListN.{getD}
 
 -- ---- the parts of a file
 
@@ -148,7 +142,7 @@ packOf sampler header words output =
     (unless 21 (roomFault (length output) due) output
     (filled (Done due) (splice output 0 (header ++ packed sampler words)))))
 
--- ---- both samplers
+-- ---- what unpacking and packing need to undo each other
 
 -- The first number that a sampler's bits do not hold.
 abbrev pub bitsSize : Sampler → ℕ

@@ -1,6 +1,5 @@
 -- A script of calls in bytes, and what running it comes to: how many calls were made, the output and the image afterwards.
 -- The form is ours, no paper's; what each call comes to is `callOf`. Assumes nothing.
-use mathlib.Core.Path.{_≡_}
 use mathlib.Core.Bool.{Bool, true, false}
 use mathlib.Core.List.{List, _∷_, _++_}
 use mathlib.Core.Option.{Option, none, some}

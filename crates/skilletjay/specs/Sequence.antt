@@ -23,7 +23,8 @@ use Rattle.names.specs.NameLaws.{length-name}
 use Rattle.view.specs.Disk.{File, used}
 use Rattle.image.specs.Image.{entryAt, viewOf, filesIn}
 use Rattle.record.specs.Record.{shapeOf, Files, Call, check, list, find, page, put, remove, Answer, Outcome, fileAt, judgeName, judgePut, listing, finding, paging, putting, removing, stepFiles}
-use Rattle.record.specs.Step.{imageAfter, stepImage, list-output, find-output, put-output, remove-output}
+use Rattle.record.specs.Step.{imageAfter, stepImage}
+use Rattle.record.specs.Lemmas.Step.{list-output, find-output, put-output, remove-output}
 use Rattle.record.specs.declared.Judged.{Judged}
 use Rattle.record.specs.declared.Judged.the-variants.{Refuse, Grant}
 use Rattle.rules.specs.declared.Checked.the-variants.{Accepted}

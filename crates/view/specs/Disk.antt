@@ -5,7 +5,7 @@ use mathlib.Core.Bool.{Bool, true, not}
 use mathlib.Core.List.{List, [], _++_}
 use mathlib.Core.Option.{Option, none, some}
 use Prim.Native.Nat.{ℕ, zero, suc, _<_}
-use lib.ListN.{take}
+use lib.ListN.{take, length}
 use lib.Dec.{leb, ltb, eqb}
 use Rattle.laws.specs.Truth.{pick, both}
 use Rattle.laws.specs.Member.{In}
@@ -13,8 +13,6 @@ use Rattle.layout.specs.declared.Layout.{Layout}
 use Rattle.blocks.specs.Blocks.{linksFor, readBlocks, blocksFor}
 use Rattle.names.specs.Names.{legalArea, legalType, nameOf}
 use Rattle.map.specs.Map.{Data, chain, Chained}
-use Prim.Native.Nat.{ℕ}
-use lib.ListN.{length}
 
 -- A directory entry: the name's area, the type, the length and the start block.
 pub record Entry : Type 0 where

@@ -8,11 +8,9 @@ use lib.IntN.{ℤ, pos, negsuc}
 use lib.ListN.{length, getD}
 use Rattle.laws.specs.Truth.{pick}
 use Rattle.laws.specs.Reader.{tab}
-use mathlib.Core.List.{List, [], _++_}
-use Prim.Native.Nat.{ℕ}
 use Rattle.laws.specs.Scan.{over}
 
--- the parts of the n numbers from i on, one after another
+-- The parts of the n numbers from i on, one after another.
 unfoldable pub parts : {A : Type 0} → (ℕ → List A) → ℕ → ℕ → List A
 unfolding over
 parts f i n = over (λ k rest. f k ++ rest) [] i n

@@ -2,7 +2,8 @@
 -- The check's answer is taken apart, and the layout is that of its kind and density. Assumes nothing.
 use denote.Ref.{now}
 use borrow.Author.Needs.{needs}
-use Rattle.calls.specs.Answers.{call-refused, findCall}
+use Rattle.calls.specs.Lemmas.Answers.{call-refused}
+use Rattle.calls.specs.Answers.{findCall}
 use Rattle.calls.specs.Lemmas.Done.{done-right, done-rules, find-done}
 use Rattle.calls.proofs.find.Statement.{statement}
 use Rattle.calls.proofs.find.Tie as tie

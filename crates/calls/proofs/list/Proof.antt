@@ -3,7 +3,8 @@
 use mathlib.Core.Path.{subst}
 use denote.Ref.{now}
 use borrow.Author.Needs.{needs}
-use Rattle.calls.specs.Answers.{Lists, lists-refused}
+use Rattle.calls.specs.Answers.{Lists}
+use Rattle.calls.specs.Lemmas.Answers.{lists-refused}
 use Rattle.calls.specs.Lemmas.Done.{done-right, done-rules, list-done}
 use Rattle.calls.proofs.list.Statement.{statement}
 use Rattle.calls.proofs.list.Tie as tie

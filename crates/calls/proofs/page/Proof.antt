@@ -3,7 +3,8 @@
 use mathlib.Core.Path.{_∙_}
 use denote.Ref.{now}
 use borrow.Author.Needs.{needs}
-use Rattle.calls.specs.Answers.{call-refused, pageCall}
+use Rattle.calls.specs.Lemmas.Answers.{call-refused}
+use Rattle.calls.specs.Answers.{pageCall}
 use Rattle.calls.specs.Lemmas.Done.{done-right, done-rules, page-done}
 use Rattle.calls.proofs.page.Statement.{statement}
 use Rattle.calls.proofs.page.Tie as tie

@@ -5,8 +5,10 @@ use mathlib.Core.List.{List}
 use Prim.Native.Nat.{ℕ}
 use denote.Ref.{now}
 use borrow.Author.Needs.{needs}
-use Rattle.changes.specs.Changes.{putArea, put-area}
-use Rattle.calls.specs.Answers.{call-refused, putCall}
+use Rattle.changes.specs.Changes.{putArea}
+use Rattle.changes.specs.Lemmas.Changes.{put-area}
+use Rattle.calls.specs.Lemmas.Answers.{call-refused}
+use Rattle.calls.specs.Answers.{putCall}
 use Rattle.calls.specs.Lemmas.Done.{done-right, done-rules, done-free, put-found, put-legal, put-needs, put-granted}
 use Rattle.calls.proofs.put.Statement.{statement}
 use Rattle.calls.proofs.put.Tie as tie

@@ -2,7 +2,8 @@
 -- The check's answer is taken apart, then the judgement. Assumes nothing.
 use denote.Ref.{now}
 use borrow.Author.Needs.{needs}
-use Rattle.calls.specs.Answers.{call-refused, removeCall}
+use Rattle.calls.specs.Lemmas.Answers.{call-refused}
+use Rattle.calls.specs.Answers.{removeCall}
 use Rattle.calls.specs.Lemmas.Done.{done-right, done-rules, remove-needs, remove-refused, remove-granted}
 use Rattle.calls.proofs.remove.Statement.{statement}
 use Rattle.calls.proofs.remove.Tie as tie

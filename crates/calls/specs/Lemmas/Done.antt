@@ -33,7 +33,8 @@ use Rattle.rules.specs.declared.Checked.{Checked}
 use Rattle.rules.specs.declared.Checked.the-variants.{Accepted}
 use Rattle.rules.specs.Check.{came, checkOf, callOf}
 use Rattle.rules.specs.Accepted.{accepted-rules, accepted-counts}
-use Rattle.calls.specs.Answers.{foundOf, foundBy, call-accepted}
+use Rattle.calls.specs.Answers.{foundOf, foundBy}
+use Rattle.calls.specs.Lemmas.Answers.{call-accepted}
 use Rattle.calls.specs.declared.Found.{Found}
 use Rattle.calls.specs.Lemmas.Paging.{size-some}
 

@@ -8,7 +8,8 @@ use Rattle.laws.specs.Scan.{lowest}
 use Rattle.laws.specs.declared.Lowest.the-variants.{Nowhere}
 use Rattle.view.specs.Rules.{broken}
 use Rattle.image.specs.Image.{viewOf}
-use Rattle.chains.specs.Passes.{taken, chain-faulty, chain-clean, chain-shared, chain-stray, chain-pass}
+use Rattle.chains.specs.Passes.{taken}
+use Rattle.chains.specs.Lemmas.Passes.{chain-faulty, chain-clean, chain-shared, chain-stray, chain-pass}
 use Rattle.chains.specs.Lemmas.Tally.{marks-taken}
 use Rattle.chains.proofs.chain_rules.Statement.{statement}
 use Rattle.chains.proofs.chain_rules.Tie as tie

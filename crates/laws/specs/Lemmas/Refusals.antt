@@ -1,5 +1,5 @@
--- A refusal, and what a call comes to that answers a count and fills a lent output.
--- Each test refuses or lets the call go on, so a refused call keeps its output. Assumes nothing.
+-- A call that answers a count keeps its output where it is refused.
+-- Each test refuses or lets the call go on, and only a call that is done writes. Assumes nothing.
 use mathlib.Core.Path.{_≡_, refl, sym}
 use mathlib.Core.List.{List}
 use Prim.Native.Nat.{ℕ, _≤_}

@@ -4,7 +4,7 @@ use mathlib.Core.Path.{_∙_}
 use denote.Ref.{now}
 use borrow.Author.Needs.{needs}
 use Rattle.calls.specs.Lemmas.Done.{done-right, done-rules}
-use Rattle.locate.specs.Locate.{blocks-refused, blocks-done}
+use Rattle.locate.specs.Lemmas.Locate.{blocks-refused, blocks-done}
 use Rattle.locate.proofs.file_blocks.Statement.{statement}
 use Rattle.locate.proofs.file_blocks.Tie as tie
 

@@ -7,7 +7,7 @@ use borrow.Author.Needs.{needs}
 use borrow.Author.Tests.{not-true, not-false}
 use Rattle.changes.specs.Lemmas.Lent.{count-fits, lent-all}
 use Rattle.calls.specs.Lemmas.Paging.{size-some, slot-chained}
-use Rattle.locate.specs.Locate.{blocks-above, blocks-empty, blocks-short, blocks-all}
+use Rattle.locate.specs.Lemmas.Locate.{blocks-above, blocks-empty, blocks-short, blocks-all}
 use Rattle.locate.proofs.slot_blocks.Statement.{statement}
 use Rattle.locate.proofs.slot_blocks.Tie as tie
 
