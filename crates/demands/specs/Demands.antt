@@ -32,7 +32,7 @@ use Rattle.names.specs.Names.{legalName, legalType}
 use Rattle.map.specs.Map.{mapAt, freeCount}
 use Rattle.view.specs.Disk.{File, takes}
 use Rattle.image.specs.Image.{filesIn, DiskRules}
-use Rattle.record.specs.Record.{Shape, Files, Call, check, list, page, refused, paged, Turn, fileCount, slotOf, emptySlot, free, fileAt, refuse, judgeName, judgePut, stepFiles}
+use Rattle.record.specs.Record.{Shape, Files, Call, check, list, page, refused, refusedBy, paged, Turn, fileCount, slotOf, emptySlot, free, fileAt, refuse, judgeName, judgePut, stepFiles}
 use Rattle.record.specs.Order.{roomFor}
 use Rattle.record.specs.Order as order
 use Rattle.rules.specs.declared.Checked.the-variants.{Accepted, Refused}
@@ -66,7 +66,7 @@ use Rattle.listing.specs.Lines.{linesOf}
 use Rattle.listing.specs.Lines as listings
 use Rattle.table.specs.Table.{rows, All}
 use Rattle.table.specs.Table as table
-use Rattle.skilletjay.specs.Told.{CTurn, toldOf, turnIn, CRan, turnsIn}
+use Rattle.skilletjay.specs.Told.{CTurn, toldOf, refusedTurn, turnIn, CRan, turnsIn}
 use Rattle.skilletjay.specs.Sequence as sequence
 use Rattle.skilletjay.specs.Counted.{Counting, lentTo, countingOf}
 use Rattle.skilletjay.specs.Counted as counting
@@ -74,7 +74,7 @@ use Rattle.skilletjay.specs.Counted as counting
 -- ---- Demand 1: any bytes; a refusal has a number of the table, and changes nothing that was lent
 
 -- The calls on a disk: check, list, find, page, put, remove.
-pub refused-unchanged : (img : List ℕ) (c : Call) (r : Refusal) → callOf img c .answer .refusal ≡ some r → (callOf img c .output ≡ lent c) × (callOf img c .state ≡ img)
+pub refused-unchanged : (img : List ℕ) (c : Call) (r : Refusal) → callOf img c .answer .refusal ≡ some r → callOf img c ≡ came (refusedBy r) (lent c) img
 refused-unchanged = refusals.unchanged
 
 pub refused-numbered : (img : List ℕ) (c : Call) (r : Refusal) → callOf img c .answer .refusal ≡ some r → Numbered r
@@ -222,6 +222,10 @@ label-kept = outside.label-kept
 pub result-tells : (k : Kind) (d : Density) (f n : ℕ) (img : List ℕ) → checkOf img ≡ Accepted k d f n → (t : CTurn)
     → let u = turnIn (layoutOf k d) img t in t ≡ toldOf img (u .call) → Made img (u .call) (u .answer) (u .output) (u .after)
 result-tells = sequence.told-made
+
+-- On a refusal, whatever the image: its number and place, 0 in every other field, and all that was lent as it was.
+pub result-refused : (img : List ℕ) (c : Call) (r : Refusal) → callOf img c .answer .refusal ≡ some r → toldOf img c ≡ refusedTurn img c r
+result-refused = sequence.told-refusal
 
 -- ---- The listing program's text: that of the check's and list's answers, though it keeps the first 5,120 bytes alone
 

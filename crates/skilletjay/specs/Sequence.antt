@@ -10,7 +10,7 @@ use native.Mathlib.Omega.{arith}
 use lib.Dec.{ltb}
 use lib.ListN.{length}
 use borrow.Author.Tests.{ne-eqb}
-use Rattle.laws.specs.Lemmas.Padded.{take-padded}
+use Rattle.laws.specs.Lemmas.Padded.{padded-nil, take-padded}
 use Rattle.laws.specs.declared.Refusal.{Refusal}
 use Rattle.laws.specs.Reader.{bytes}
 use Rattle.laws.specs.Lemmas.Reader.{length-tab}
@@ -30,11 +30,12 @@ use Rattle.record.specs.declared.Judged.the-variants.{Refuse, Grant}
 use Rattle.rules.specs.declared.Checked.the-variants.{Accepted}
 use Rattle.rules.specs.Check.{checkOf, callOf, Made}
 use Rattle.rules.specs.Accepted.{accepted-rules}
+use Rattle.rules.specs.Refused.{unchanged}
 use Rattle.rules.specs.Small.{Numbered, refusal-numbered}
 use Rattle.rules.specs.Demand.{call-is, Ran, Behaves, demand-3}
 use Rattle.calls.specs.Lemmas.Slots.{slotFile, file-above, file-empty, file-used}
 use Rattle.skilletjay.specs.Results.{checkedResult, listedResult, foundResult, pagedResult, doneResult}
-use Rattle.skilletjay.specs.Told.{CTurn, checked, listed, found, paged, placed, removed, toldOf, refusalIn, checkedIn, listedIn, foundIn, pagedIn, doneIn, turnIn, CRan, turnsIn}
+use Rattle.skilletjay.specs.Told.{CTurn, checked, listed, found, paged, placed, removed, toldOf, refusedTurn, refusalIn, checkedIn, listedIn, foundIn, pagedIn, doneIn, turnIn, CRan, turnsIn}
 
 -- ---- each answer is what the result tells of it
 
@@ -148,6 +149,15 @@ module _ (k : Kind) (d : Density) (f n : ℕ) (img : List ℕ) (accepts : checkO
       let z : r ≡ doneResult (callOf img c .answer) = cc in
       let o : after ≡ callOf img c .state = cc in
       by c (ap doneIn (z ∙ ap doneResult (answer-is c)) ∙ removed-back files _ j (numbered c)) (sym (remove-output files _ j)) (o ∙ state-is c)
+
+-- Whatever the image, a refused call tells C its refusal and 0 in all else, and leaves what was lent.
+pub told-refusal : (img : List ℕ) (c : Call) (r : Refusal) → callOf img c .answer .refusal ≡ some r → toldOf img c ≡ refusedTurn img c r
+told-refusal img check r e = rw (unchanged img check r e) refl
+told-refusal img (list s) r e = rw (unchanged img (list s) r e, padded-nil 12) refl
+told-refusal img (find name) r e = rw (unchanged img (find name) r e) refl
+told-refusal img (page s offset out) r e = rw (unchanged img (page s offset out) r e) refl
+told-refusal img (put name type content) r e = rw (unchanged img (put name type content) r e) refl
+told-refusal img (remove name) r e = rw (unchanged img (remove name) r e) refl
 
 -- ---- sequences
 

@@ -6,7 +6,7 @@ use mathlib.Core.List.{List, [], _∷_}
 use mathlib.Core.Option.{Option, none, some}
 use Prim.Native.Nat.{ℕ}
 use lib.Dec.{eqb}
-use lib.ListN.{take}
+use lib.ListN.{take, replicate}
 use Rattle.laws.specs.Truth.{pick}
 use Rattle.laws.specs.declared.Refusal.{Refusal}
 use Rattle.laws.specs.Refusals.{refusalAt}
@@ -39,6 +39,15 @@ toldOf img (find name) = found name (foundResult (callOf img (find name) .answer
 toldOf img (page slot offset lent) = paged slot offset lent (pagedResult (callOf img (page slot offset lent) .answer)) (callOf img (page slot offset lent) .output)
 toldOf img (put name type content) = placed name type content (foundResult (callOf img (put name type content) .answer)) (callOf img (put name type content) .state)
 toldOf img (remove name) = removed name (doneResult (callOf img (remove name) .answer)) (callOf img (remove name) .state)
+
+-- A refused call: the refusal's number and place, 0 in every other field, and all that was lent as it was.
+abbrev pub refusedTurn : List ℕ → Call → Refusal → CTurn
+refusedTurn img check r = checked (record { refusal = r .number; place = r .place; kind = 0; density = 0; files = 0; free = 0 })
+refusedTurn img (list slot) r = listed slot (record { refusal = r .number; place = r .place; name = replicate 12 0; letter = 0; length = 0 })
+refusedTurn img (find name) r = found name (record { refusal = r .number; place = r .place; slot = 0 })
+refusedTurn img (page slot offset lent) r = paged slot offset lent (record { refusal = r .number; place = r .place; count = 0; end = false }) lent
+refusedTurn img (put name type content) r = placed name type content (record { refusal = r .number; place = r .place; slot = 0 }) img
+refusedTurn img (remove name) r = removed name (record { refusal = r .number; place = r .place }) img
 
 -- ---- the answer that a result tells
 
