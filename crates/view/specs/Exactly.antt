@@ -1,4 +1,4 @@
--- The cascade of searches refuses exactly as is due (`refused-due`), and passes exactly the valid disks (`pass-valid`).
+-- The cascade of searches refuses exactly as is due (`refused-due`), and passes exactly the valid disks (`passed-valid`, `valid-passed`).
 -- A search's test holds exactly where its rule is broken; a disk is valid exactly where none is. Assumes nothing.
 use mathlib.Core.Path.{_≡_, refl, sym, ap, _∙_}
 use mathlib.Core.Bool.{Bool, true, false, not}
