@@ -1,9 +1,12 @@
-//! The commands, one module for each or for two that are alike.
+//! The commands, one module for each or for those that are alike.
 
 pub mod change;
 pub mod check;
 pub mod get;
 pub mod help;
 pub mod ls;
+pub mod many;
 pub mod program;
+pub mod put;
 pub mod samples;
+pub mod table;

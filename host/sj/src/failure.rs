@@ -1,68 +1,210 @@
 //! Why a run failed, what is told about it, and the exit status.
 
+use crate::json::Object;
+use crate::manner::Manner;
 use crate::output;
-use skilletjay::Refusal;
+use skilletjay::{Place, Refusal};
 use std::fmt::Display;
 use std::io;
 use std::path::Path;
 use std::process::ExitCode;
 
-/// A failure: what to tell on standard error, and the status.
+/// A failure: what to tell, and the status. In a box, so that what doesn't fail pays little for it.
 #[derive(Debug)]
-pub enum Failure {
-    /// The library, or the command, refused what it was given: status 1.
-    Refused(String),
-    /// The command line is wrong: status 2.
-    Usage(String),
-    /// A file can't be read or written: status 2.
-    File(String),
-    /// All was told already; the status alone is left.
-    Told(u8),
+pub struct Failure(Box<Told>);
+
+#[derive(Debug)]
+struct Told {
+    status: u8,
+    /// The file or image that it is about; empty for none.
+    about: String,
+    /// The file on the image that it is about; empty for none.
+    name: String,
+    /// What is wrong, without what it is about.
+    words: String,
+    /// What to do about it; empty where the words say it.
+    advice: String,
+    refusal: Option<Refusal>,
 }
 
 impl Failure {
-    /// A refusal about a file: words, number, place and what to do.
+    fn new(status: u8, about: impl Display, words: impl Display) -> Failure {
+        let (about, words) = (about.to_string(), words.to_string());
+        let (name, advice) = (String::new(), String::new());
+        Failure(Box::new(Told { status, about, name, words, advice, refusal: None }))
+    }
+
+    fn with(mut self, change: impl FnOnce(&mut Told)) -> Failure {
+        change(&mut self.0);
+        self
+    }
+
+    /// A refusal of the library about a file: words, number and place; what to do is told where it is asked for.
     pub fn refused(about: impl Display, refusal: Refusal) -> Failure {
-        Failure::Refused(format!("{about}: {refusal}.\n{}", refusal.advice()))
+        Failure::new(1, about, refusal).with(|told| {
+            told.advice = refusal.advice().to_string();
+            told.refusal = Some(refusal);
+        })
+    }
+
+    /// A refusal of the library in words that say more than its own.
+    pub fn refused_as(about: impl Display, refusal: Refusal, words: impl Display) -> Failure {
+        Failure::refused(about, refusal).with(|told| told.words = numbered(words, refusal))
+    }
+
+    /// A refusal of `sj` itself about a file, and what to do.
+    pub fn declined(about: impl Display, words: impl Display, advice: impl Display) -> Failure {
+        Failure::new(1, about, words).with(|told| told.advice = advice.to_string())
     }
 
     /// A wrong command line.
-    pub fn usage(what: impl Display) -> Failure {
-        Failure::Usage(format!("{what} (sj --help tells the commands)"))
+    pub fn usage(words: impl Display) -> Failure {
+        Failure::new(2, "", format!("{words} (sj --help tells the commands)"))
     }
 
     /// A file that can't be read or written.
     pub fn file(path: &Path, error: io::Error) -> Failure {
-        Failure::File(format!("{}: {error}", path.display()))
+        Failure::new(2, shown(path), error)
+    }
+
+    /// Something that stands in the way of reading or writing, in words.
+    pub fn blocked(words: impl Display) -> Failure {
+        Failure::new(2, "", words)
+    }
+
+    /// The same, about a file on the image.
+    pub fn on(self, name: &str) -> Failure {
+        self.with(|told| told.name = shown(Path::new(name.trim_end())))
+    }
+
+    /// All was told already; the status alone is left.
+    pub fn told(status: u8) -> Failure {
+        Failure::new(status, "", "")
     }
 
     /// The same, told with what was done all the same.
-    pub fn after(mut self, done: impl Display) -> Failure {
-        if let Failure::Refused(text) | Failure::Usage(text) | Failure::File(text) = &mut self {
-            *text = format!("{done}, but {text}");
-        }
-        self
+    pub fn after(self, done: impl Display) -> Failure {
+        let words = format!("{done}, but {}{}", self.start(), self.0.words);
+        self.with(|told| (told.about, told.name, told.words) = (String::new(), String::new(), words))
     }
 
-    /// Tells it on standard error.
-    pub fn tell(&self) {
-        match self {
-            Failure::Refused(text) | Failure::Usage(text) | Failure::File(text) => output::warn(text),
-            Failure::Told(_) => {}
+    /// Adds to what is wrong.
+    pub fn and(self, more: impl Display) -> Failure {
+        self.with(|told| told.words.push_str(&format!("; {more}")))
+    }
+
+    /// What it is about, before the words.
+    fn start(&self) -> String {
+        let with_colon = |about: &String| if about.is_empty() { String::new() } else { format!("{about}: ") };
+        with_colon(&self.0.about) + &with_colon(&self.0.name)
+    }
+
+    /// Tells it: a line on standard error, and one more of advice where that is asked for; or an object.
+    pub fn tell(&self, manner: Manner) {
+        if self.0.words.is_empty() {
+            return;
         }
+        if manner.json && output::say(&self.object(manner)).is_ok() {
+            return;
+        }
+        if self.refusal().is_some_and(|number| number < 10) {
+            output::warn(&format!("{}{}", self.start(), self.0.words)); // a line for an image, however long its path
+        } else {
+            output::warn_wrapped(&self.start(), &self.0.words);
+        }
+        if manner.explain && !self.0.advice.is_empty() {
+            output::explain(&self.0.advice);
+        }
+    }
+
+    fn object(&self, manner: Manner) -> String {
+        let object = Object::new().text_if("file", &self.0.about).text_if("name", &self.0.name);
+        let object = match self.0.refusal {
+            Some(refusal) => object
+                .number("refusal", refusal.number() as usize)
+                .number("place", refusal.place())
+                .text_if("counts", &counted(refusal.counts())),
+            None => object,
+        };
+        let words = if self.0.status == 1 { "words" } else { "error" };
+        object
+            .text(words, &self.0.words)
+            .text_if("advice", if manner.explain { &self.0.advice } else { "" })
+            .line()
+    }
+
+    /// The refusal's number, if the library refused.
+    pub fn refusal(&self) -> Option<u32> {
+        self.0.refusal.map(|refusal| refusal.number())
     }
 
     /// The exit status as a number.
     pub fn number(&self) -> u8 {
-        match self {
-            Failure::Refused(_) => 1,
-            Failure::Usage(_) | Failure::File(_) => 2,
-            Failure::Told(status) => *status,
-        }
+        self.0.status
     }
 
     /// The exit status.
     pub fn status(&self) -> ExitCode {
-        ExitCode::from(self.number())
+        ExitCode::from(self.0.status)
+    }
+}
+
+/// Words of our own with number and place, as a refusal tells its.
+fn numbered(words: impl Display, refusal: Refusal) -> String {
+    match refusal.counts() {
+        Place::None => format!("{words} (refusal {})", refusal.number()),
+        counts => format!("{words} (refusal {}, {counts} {})", refusal.number(), refusal.place()),
+    }
+}
+
+fn counted(counts: Place) -> String {
+    if counts == Place::None { String::new() } else { counts.to_string() }
+}
+
+/// A path as it may be printed: in quotes, with escapes, where it holds what would not show as itself.
+pub fn shown(path: &Path) -> String {
+    match path.to_str() {
+        Some(text) if !text.is_empty() && !text.chars().any(char::is_control) => text.to_string(),
+        _ => format!("{path:?}"),
+    }
+}
+
+/// A number with what it counts, one or many.
+pub fn counting(number: usize, one: &str) -> String {
+    format!("{} {one}{}", grouped(number), if number == 1 { "" } else { "s" })
+}
+
+/// A number with a comma before each three digits.
+pub fn grouped(number: usize) -> String {
+    let digits = number.to_string();
+    let mut text = String::new();
+    for (at, digit) in digits.chars().enumerate() {
+        if at > 0 && (digits.len() - at).is_multiple_of(3) {
+            text.push(',');
+        }
+        text.push(digit);
+    }
+    text
+}
+
+#[cfg(test)]
+mod tests {
+    use super::*;
+    use std::ffi::OsStr;
+    use std::os::unix::ffi::OsStrExt;
+
+    #[test]
+    fn paths_that_would_not_show_are_quoted() {
+        assert_eq!(shown(Path::new("a b/c'.img")), "a b/c'.img");
+        assert_eq!(shown(Path::new("a\n\x1b[2J")), "\"a\\n\\u{1b}[2J\"");
+        assert_eq!(shown(Path::new(OsStr::from_bytes(b"a\xff"))), "\"a\\xFF\"");
+        assert_eq!(shown(Path::new("")), "\"\"");
+    }
+
+    #[test]
+    fn numbers_are_grouped_and_counted() {
+        assert_eq!(counting(1, "block"), "1 block");
+        assert_eq!(counting(0, "block"), "0 blocks");
+        assert_eq!([0, 999, 1000, 1_633_280].map(grouped), ["0", "999", "1,000", "1,633,280"]);
     }
 }

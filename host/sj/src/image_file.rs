@@ -1,14 +1,15 @@
 //! Image files: read whole or as far as is needed, and changed so that the old image or the new one is there at any
 //! time.
 
-use crate::failure::Failure;
+use crate::failure::{Failure, shown};
 use crate::progress;
 use crate::save::{self, Draft};
-use skilletjay::{BLOCK, HEAD, Image};
+use skilletjay::{BLOCK, HEAD, Image, Slot};
 use std::fs::{self, File, Metadata, OpenOptions};
 use std::io::Read;
 use std::os::unix::fs::{FileExt, MetadataExt};
 use std::path::{Path, PathBuf};
+use std::time::Duration;
 
 /// The lengths of images, low density and high.
 const LENGTHS: [u64; 2] = [819_200, MOST];
@@ -78,6 +79,13 @@ impl Opened {
         Image::new(&self.bytes)
     }
 
+    /// Reads the blocks of the file in a slot.
+    pub fn fetch_file(&mut self, slot: Slot) -> Result<(), Failure> {
+        let refused = |refusal| Failure::refused(shown(&self.path), refusal);
+        let blocks = self.image().blocks(slot).map_err(refused)?;
+        self.fetch(&blocks)
+    }
+
     /// Reads blocks to their places, neighbours at once. The file is the one that was opened, also where another run
     /// has put a new image in its place.
     pub fn fetch(&mut self, blocks: &[u16]) -> Result<(), Failure> {
@@ -97,7 +105,7 @@ impl Opened {
 pub fn refuse_itself(read: &Path, to: &Path) -> Result<(), Failure> {
     match (fs::metadata(read), fs::metadata(to)) {
         (Ok(one), Ok(other)) if identity(&one) == identity(&other) => {
-            Err(Failure::File(format!("{} is the file that is read; take another name", to.display())))
+            Err(Failure::blocked(format!("{} is the file that is read; take another name", shown(to))))
         }
         _ => Ok(()),
     }
@@ -108,8 +116,21 @@ fn identity(about: &Metadata) -> (u64, u64) {
     (about.dev(), about.ino())
 }
 
+/// How an image may be changed.
+#[derive(Clone, Copy, Debug, Default)]
+pub struct Changing {
+    /// Also where owner, group, ACL or extended attributes can't be kept.
+    pub force: bool,
+    /// How long to wait for another run; None: as long as it takes.
+    pub timeout: Option<Duration>,
+}
+
 /// Changes an image: one run after another, and no byte of the file is written in place.
-pub fn change<T>(path: &Path, change: impl FnOnce(&mut Image) -> Result<T, Failure>) -> Result<T, Failure> {
+pub fn change<T>(
+    path: &Path,
+    _how: Changing,
+    change: impl FnOnce(&mut Image) -> Result<T, Failure>,
+) -> Result<T, Failure> {
     // Through links to the file itself, so that the rename replaces it and not a link.
     let path = fs::canonicalize(path).map_err(|error| Failure::file(path, error))?;
     let file = lock(&path)?;
@@ -144,7 +165,6 @@ mod tests {
     use model::layout::LAYOUTS;
     use model::maker::{self, Plan};
     use model::random::Random;
-    use skilletjay::Slot;
 
     /// What is read of an image whose every byte that no rule reads is noise: its head, and the file's blocks.
     #[test]

@@ -6,42 +6,64 @@
 mod arguments;
 mod commands;
 mod failure;
+mod folder;
 mod image_file;
 mod json;
+mod manner;
 mod output;
+mod outside;
 mod progress;
 mod save;
+mod select;
 mod wav;
 
 use arguments::Arguments;
+use commands::table::{self, Command};
 use failure::Failure;
+use manner::Manner;
+use std::ffi::OsString;
+use std::panic;
 use std::process::ExitCode;
 
 fn main() -> ExitCode {
-    match run() {
+    panic::set_hook(Box::new(|_| {})); // told below, in our words and with our status
+    let words: Vec<OsString> = std::env::args_os().skip(1).collect();
+    let manner = Manner { json: words.iter().any(|word| word == "--json"), ..Manner::default() };
+    let ended = panic::catch_unwind(|| run(words)).unwrap_or_else(|_| {
+        Err((
+            manner,
+            Failure::blocked("a fault in sj itself stopped it; an image is as it was or whole and new"),
+        ))
+    });
+    match ended {
         Ok(()) => ExitCode::SUCCESS,
-        Err(failure) => {
-            failure.tell();
+        Err((manner, failure)) => {
+            failure.tell(manner);
             failure.status()
         }
     }
 }
 
-fn run() -> Result<(), Failure> {
-    let mut words = std::env::args_os().skip(1);
-    let command = words.next().unwrap_or_default();
-    let mut arguments = Arguments::new(words);
-    match command.to_str().unwrap_or_default() {
-        "check" => commands::check::run(&mut arguments),
-        "ls" => commands::ls::run(&mut arguments),
-        "get" => commands::get::run(&mut arguments),
-        "put" => commands::change::put(&mut arguments),
-        "rm" => commands::change::remove(&mut arguments),
-        "unpack" => commands::samples::unpack(&mut arguments),
-        "pack" => commands::samples::pack(&mut arguments),
-        "program" => commands::program::run(&mut arguments),
-        "--help" | "-h" | "help" => commands::help::run(&mut arguments),
+/// Finds the command and makes it; a failure comes with how it is to be told.
+fn run(words: Vec<OsString>) -> Result<(), (Manner, Failure)> {
+    let manner = Manner { json: words.iter().any(|word| word == "--json"), ..Manner::default() };
+    let early = |failure| (manner, failure);
+    let mut words = words.into_iter();
+    let name = words.next().unwrap_or_default();
+    let command = named(&name.to_string_lossy()).map_err(early)?;
+    let mut arguments = Arguments::new(words, &command.all_flags()).map_err(early)?;
+    if arguments.flag("--help") || arguments.flag("-h") {
+        return output::say(&command.help()).map_err(early);
+    }
+    let manner = arguments.manner();
+    (command.run)(&mut arguments).map_err(|failure| (manner, failure))
+}
+
+fn named(name: &str) -> Result<&'static Command, Failure> {
+    match name {
         "" => Err(Failure::usage("which command?")),
-        other => Err(Failure::usage(format!("there is no command {other}"))),
+        "--help" | "-h" => Ok(table::named("help").expect("it is in the table")),
+        "--version" | "-V" => Ok(table::named("version").expect("it is in the table")),
+        name => table::named(name).ok_or_else(|| Failure::usage(format!("there is no command {name}"))),
     }
 }

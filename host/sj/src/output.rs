@@ -4,6 +4,9 @@ use crate::failure::Failure;
 use std::io::{self, ErrorKind, Write, stderr, stdout};
 use std::path::Path;
 
+/// No line of a longer text has more columns.
+const COLUMNS: usize = 100;
+
 /// Writes bytes to standard output. They were asked for, so a reader that closes it early has not got them.
 pub fn write(bytes: &[u8]) -> Result<(), Failure> {
     written(bytes).map_err(failed)
@@ -22,6 +25,54 @@ pub fn warn(text: &str) {
     let _ = writeln!(stderr(), "sj: {text}");
 }
 
+/// Writes a message whose words may be long: broken into lines, but for what it is about.
+pub fn warn_wrapped(about: &str, words: &str) {
+    let mut text = String::new();
+    let mut columns = "sj: ".len() + about.chars().count();
+    for word in words.split(' ') {
+        let length = word.chars().count();
+        if text.is_empty() {
+            columns += length;
+        } else if columns + 1 + length > COLUMNS {
+            text.push_str("\n    ");
+            columns = 4 + length;
+        } else {
+            text.push(' ');
+            columns += 1 + length;
+        }
+        text.push_str(word);
+    }
+    warn(&format!("{about}{text}"));
+}
+
+/// Writes what to do to standard error, after a message.
+pub fn explain(text: &str) {
+    for line in wrapped_to(COLUMNS - 4, text).lines() {
+        let _ = writeln!(stderr(), "    {line}");
+    }
+}
+
+/// A text broken between words into lines that aren't too long.
+pub fn wrapped(text: &str) -> String {
+    wrapped_to(COLUMNS, text)
+}
+
+/// A text broken between words into lines of so many columns at most; a longer word has a line of its own.
+pub fn wrapped_to(columns: usize, text: &str) -> String {
+    let (mut lines, mut line) = (Vec::new(), String::new());
+    for word in text.split_whitespace() {
+        if !line.is_empty() && line.chars().count() + 1 + word.chars().count() > columns {
+            lines.push(std::mem::take(&mut line));
+        }
+        if !line.is_empty() {
+            line.push(' ');
+        }
+        line.push_str(word);
+    }
+    lines.push(line);
+    lines.join("\n")
+}
+
 fn written(bytes: &[u8]) -> io::Result<()> {
     let mut out = stdout().lock();
     out.write_all(bytes)?;
@@ -30,4 +81,15 @@ fn written(bytes: &[u8]) -> io::Result<()> {
 
 fn failed(error: io::Error) -> Failure {
     Failure::file(Path::new("standard output"), error)
+}
+
+#[cfg(test)]
+mod tests {
+    use super::*;
+
+    #[test]
+    fn lines_are_broken_between_words() {
+        assert_eq!(wrapped_to(5, "a bb ccc dddddd e"), "a bb\nccc\ndddddd\ne");
+        assert_eq!(wrapped_to(4, " a  bb "), "a bb");
+    }
 }

@@ -1,7 +1,7 @@
 //! Files written whole or not at all: to a new name beside the final one, synced, then renamed over it. An
 //! interrupted run leaves the final name as it was, and perhaps the new one, a draft.
 
-use crate::failure::Failure;
+use crate::failure::{Failure, shown};
 use crate::output;
 use std::ffi::{OsStr, OsString};
 use std::fs::{self, File, Metadata, OpenOptions};
@@ -39,7 +39,7 @@ impl Draft {
 
     fn begin(path: &Path, mode: u32) -> Result<Draft, Failure> {
         if path.metadata().is_ok_and(|there| !there.is_file()) {
-            return Err(Failure::File(format!("{} is there already and no plain file", path.display())));
+            return Err(Failure::blocked(format!("{} is there already and no plain file", shown(path))));
         }
         let folder = open_folder(folder_of(path))?;
         let mut turn = 0;
@@ -96,7 +96,7 @@ fn folder_of(path: &Path) -> &Path {
 
 fn open_folder(folder: &Path) -> Result<File, Failure> {
     let folder_is = |error| format!("the folder {} can't be opened to sync it: {error}", folder.display());
-    File::open(folder).map_err(|error| Failure::File(folder_is(error)))
+    File::open(folder).map_err(|error| Failure::blocked(folder_is(error)))
 }
 
 /// A hidden name in the same folder, so that the rename stays on one file system.

@@ -53,7 +53,7 @@ impl Wav {
     /// The same as a failure that names the file.
     pub fn read(name: &str, file: &[u8]) -> Result<Wav, Failure> {
         Wav::of_bytes(file).map_err(|what| {
-            Failure::Refused(format!("{name}: {what}.\nGive a WAV file of one channel and 16 bits a word."))
+            Failure::declined(name, what, "Give a WAV file of one channel and 16 bits a word.")
         })
     }
 }

@@ -1,60 +1,78 @@
-//! `sj put IMAGE FILE --name NAME --type T` and `sj rm IMAGE NAME`
+//! `sj mv IMAGE OLD NEW` and `sj rm IMAGE NAME|'#SLOT'..`
 
-use crate::arguments::{Arguments, slot_number, text};
-use crate::failure::Failure;
-use crate::{image_file, output};
-use skilletjay::{Image, Kind, Refusal};
+use super::check::changeable;
+use super::ls;
+use super::put::{put_named, refuse_empty};
+use crate::arguments::{Arguments, text};
+use crate::failure::{Failure, shown};
+use crate::image_file::{self, Changing};
+use crate::json::Object;
+use crate::manner::Manner;
+use crate::{output, select};
+use skilletjay::{Entry, Image};
 use std::path::{Path, PathBuf};
 
-/// No slot can tell a longer content, and no disk has room for one half as long.
-const MOST: u64 = 16_777_215;
-
-fn kind_of(path: &Path, image: &Image) -> Result<Kind, Failure> {
-    Ok(image.check().map_err(|refusal| Failure::refused(path.display(), refusal))?.kind)
-}
-
-/// Puts a file into an image.
-pub fn put(arguments: &mut Arguments) -> Result<(), Failure> {
-    let name = text("name", arguments.needed("--name")?)?;
-    let file_type = text("type", arguments.needed("--type")?)?;
-    let &[file_type] = file_type.as_bytes() else {
-        return Err(Failure::usage("the type is one letter"));
-    };
-    let (path, from) = (arguments.path("the image")?, PathBuf::from(arguments.next("the file")?));
-    arguments.end()?;
-    let content = image_file::read_up_to(&from, MOST)?;
-    let slot = image_file::change(&path, |image| {
-        let name = kind_of(&path, image)?.padded(&name);
-        image.put(&name, file_type, &content).map_err(|refusal| about(&path, &name, refusal))
-    })?;
-    output::say(&format!("{slot}\n"))
-        .map_err(|failure| failure.after(format!("the file was put into {slot}")))
-}
-
-/// Removes a file from an image.
-pub fn remove(arguments: &mut Arguments) -> Result<(), Failure> {
+/// Gives a file another name.
+pub fn rename(arguments: &mut Arguments) -> Result<(), Failure> {
+    let how = Changing { force: arguments.flag("--force"), timeout: arguments.timeout()? };
+    let (manner, replace) = (arguments.manner(), arguments.flag("--replace"));
     let path = arguments.path("the image")?;
-    let name = text("name", arguments.next("the file's name")?)?;
+    changeable(&path)?;
+    let old = arguments.next("the file's name or '#slot'")?;
+    let new = text("name", arguments.next("the new name")?)?;
     arguments.end()?;
-    image_file::change(&path, |image| {
-        let name = kind_of(&path, image)?.padded(&name);
-        image.remove(&name).map_err(|refusal| about_removal(&path, &name, refusal))
-    })
-}
-
-/// Who gives a slot, as get takes it, is told that here it is a name.
-fn about_removal(path: &Path, name: &str, refusal: Refusal) -> Failure {
-    let name = name.trim_end();
-    match about(path, name, refusal) {
-        Failure::Refused(text) if refusal.number() == 10 && slot_number(name).is_some() => {
-            Failure::Refused(format!(
-                "{text}\nrm takes {name} as a name, not as a slot: give the name that ls tells for the slot."
-            ))
+    refuse_empty(arguments, &new)?;
+    let about = shown(&path);
+    let entry = image_file::change(&path, how, |image| {
+        let chosen = select::chosen(&about, image, vec![old])?;
+        match &chosen.entries[..] {
+            [entry] => renamed(&about, image, entry, &new, replace),
+            _ => Err(Failure::usage("mv renames one file, and several have such a name")),
         }
-        failure => failure,
-    }
+    })?;
+    tell(&path, manner, &[entry], true)
 }
 
-fn about(path: &Path, name: &str, refusal: Refusal) -> Failure {
-    Failure::refused(format!("{}: {}", path.display(), name.trim_end()), refusal)
+/// The old entry goes before the new one comes, so that a full disk is no hindrance; if that is refused, the image as a
+/// whole stays as it was.
+fn renamed(about: &str, image: &mut Image, old: &Entry, new: &str, replace: bool) -> Result<Entry, Failure> {
+    let refused = |refusal| Failure::refused(about, refusal).on(old.name.trim_end());
+    let kind = image.check().map_err(refused)?.kind;
+    let content = image.read(old.slot).map_err(refused)?;
+    image.remove(&old.name).map_err(refused)?;
+    if replace && image.find(kind.padded(new)).is_ok() {
+        image.remove(kind.padded(new)).map_err(refused)?;
+    }
+    put_named(about, image, kind, (new, old.file_type), &content)
+}
+
+/// Removes files from an image: all or none.
+pub fn remove(arguments: &mut Arguments) -> Result<(), Failure> {
+    let how = Changing { force: arguments.flag("--force"), timeout: arguments.timeout()? };
+    let manner = arguments.manner();
+    let path: PathBuf = arguments.path("the image")?;
+    changeable(&path)?;
+    let words = arguments.some("the file's name or '#slot'")?;
+    let about = shown(&path);
+    let chosen = image_file::change(&path, how, |image| {
+        let chosen = select::chosen(&about, image, words)?;
+        for entry in &chosen.entries {
+            let refused = |refusal| Failure::refused(&about, refusal).on(entry.name.trim_end());
+            image.remove(&entry.name).map_err(refused)?;
+        }
+        Ok(chosen)
+    })?;
+    tell(&path, manner, &chosen.entries, !chosen.single)
+}
+
+/// The files that a change was about: in JSON always, in lines where that is news.
+fn tell(path: &Path, manner: Manner, entries: &[Entry], news: bool) -> Result<(), Failure> {
+    for entry in entries {
+        if manner.json {
+            output::say(&ls::fields(Object::new().text("file", &shown(path)), entry).line())?;
+        } else if news && !manner.quiet {
+            output::say(&format!("{} [{}]\n", entry.slot, entry.name.trim_end()))?;
+        }
+    }
+    Ok(())
 }

@@ -1,39 +1,47 @@
-//! `sj check IMAGE..`
+//! `sj check IMAGE|DIR..`
 
+use super::many;
 use crate::arguments::Arguments;
-use crate::failure::Failure;
-use crate::progress::Progress;
-use crate::{image_file, output};
-use std::path::{Path, PathBuf};
+use crate::failure::{Failure, counting};
+use crate::image_file;
+use crate::json::Object;
+use skilletjay::{BLOCK, Checked};
+use std::path::Path;
 
 /// Checks every image, also after one that fails; the status is the worst.
 pub fn run(arguments: &mut Arguments) -> Result<(), Failure> {
-    let mut paths = vec![arguments.path("the image")?];
-    while let Some(path) = arguments.next_if_any()? {
-        paths.push(PathBuf::from(path));
-    }
-    let mut progress = Progress::new(paths.len());
-    let mut worst = 0;
-    for path in &paths {
-        match line(path) {
-            Ok(line) => {
-                progress.before_line();
-                output::say(&line)?;
-            }
-            Err(failure) => {
-                progress.clear();
-                failure.tell();
-                worst = worst.max(failure.number());
-            }
-        }
-        progress.step();
-    }
-    if worst == 0 { Ok(()) } else { Err(Failure::Told(worst)) }
+    let manner = arguments.manner();
+    many::each(arguments.some("the image")?, manner, |path| {
+        let image = image_file::read_head(path)?;
+        let about = many::about(path);
+        let checked = image.check().map_err(|refusal| Failure::refused(&about, refusal))?;
+        Ok(if manner.json { object(&about, &checked).line() } else { line(&about, &checked) })
+    })
 }
 
-fn line(path: &Path) -> Result<String, Failure> {
-    let image = image_file::read_head(path)?;
-    let checked = image.check().map_err(|refusal| Failure::refused(path.display(), refusal))?;
+/// What an accepted check gives, as a line.
+pub fn line(about: &str, checked: &Checked) -> String {
     let (kind, density) = (checked.kind, checked.density);
-    Ok(format!("{}: {kind} {density}, files {}, free {}\n", path.display(), checked.files, checked.free))
+    let (files, blocks) = (counting(checked.files, "file"), counting(checked.free, "block"));
+    let bytes = counting(BLOCK * checked.free, "byte");
+    format!("{about}: {kind} {density}, {files}, {blocks} free ({bytes})\n")
+}
+
+/// The same as an object.
+pub fn object(about: &str, checked: &Checked) -> Object {
+    Object::new()
+        .text("file", about)
+        .text("kind", &checked.kind.to_string())
+        .text("density", &checked.density.to_string())
+        .number("files", checked.files)
+        .number("free", checked.free)
+        .number("free_bytes", BLOCK * checked.free)
+}
+
+/// Where an image was given: never standard input, which can't be changed.
+pub fn changeable(path: &Path) -> Result<(), Failure> {
+    if path.as_os_str() == "-" {
+        return Err(Failure::usage("standard input can't be changed; give the image's file"));
+    }
+    Ok(())
 }

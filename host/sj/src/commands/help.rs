@@ -1,53 +1,73 @@
-//! `sj --help` and `sj help refusals`
+//! `sj help`, `sj help COMMAND`, `sj help refusals` and `sj --version`
 
+use super::table::{self, COMMANDS};
 use crate::arguments::{Arguments, text};
 use crate::failure::Failure;
+use crate::json::Object;
 use crate::output;
 use skilletjay::{Place, Refusal};
 use std::fmt::Write;
 
-const HELP: &str = "\
-sj reads and writes floppy images of Akai S900, S950 and S1000 samplers.
+const NOTES: &str = "\
+Names are padded with spaces to the disk's length. '#0' is the file in slot 0. - as a file to read is
+standard input, and after -o standard output. -- ends the options, and --name=A is --name A.
 
-  sj check IMAGE..                       whether images are accepted
-  sj ls IMAGE [--json]                   what an image holds
-  sj get IMAGE NAME|#SLOT [-o FILE]      copies a file out; -o - is standard output
-  sj get IMAGE --all -o DIR              copies all files out
-  sj put IMAGE FILE --name NAME --type T puts a file in and tells its slot
-  sj rm IMAGE NAME                       removes a file
-  sj unpack SAMPLE -o FILE.wav           a sample file to WAV
-  sj pack FILE.wav --like SAMPLE -o FILE WAV to a sample file with SAMPLE's header
-  sj program FILE                        whether a file is an S1000 program
-  sj help refusals                       what every refusal means and what to do
-
-Names are padded with spaces to the disk's length. For get # and digits alone are a slot, and a
-file with such a name is reached by its slot; rm takes names alone. Where no FILE is given, get
-takes the name and the type, and replaces a file that is there only with --force. -- ends the
-options.
-
-An image is changed in a copy beside it, which then takes its place: a run that fails leaves the
-image as it was, and of two runs at once one waits for the other. An interrupted run may leave the
-copy, a hidden file .IMAGE.sj- and two numbers; the next run that changes the image removes it.
-Files that are copied out are written in the same way; what an interrupted get left may be removed
-by hand. A changed image is a new file: where it has more than one name (hard links), the others
-keep the old one.
-
-WAV files have one channel and 16 bits. S900 words have 12: unpack shifts them left by four, and
-pack refuses words whose low four bits aren't zero rather than lose them. pack takes number of
-words and rate from the WAV file, and cuts end, start and an S900's loop length to the number; an
-S1000's loops are carried as they are.
+An image is changed in a copy beside it, which then takes its place with owner, group, mode, ACL and
+extended attributes: a run that fails leaves the image as it was, and of two runs at once one waits
+for the other. An interrupted run may leave the copy, a hidden file .sj- and some numbers; the next
+run that changes the image removes it. Files that are copied out are written in the same way; what an
+interrupted get left may be removed by hand. A changed image is a new file: where it has more than
+one name (hard links), the others keep the old one.
 
 Exit status: 0 done, 1 refused, 2 wrong usage or a file that can't be read or written.
 ";
 
-/// Tells the commands, or the refusals.
+/// Tells the commands, one of them, or the refusals.
 pub fn run(arguments: &mut Arguments) -> Result<(), Failure> {
-    let Some(topic) = arguments.next_if_any()? else { return output::say(HELP) };
-    arguments.end()?;
-    match text("topic", topic)?.as_str() {
-        "refusals" => output::say(&refusals()),
-        other => Err(Failure::usage(format!("there is no help on {other}"))),
+    if arguments.left() == 0 {
+        return output::say(&overview());
     }
+    let topic = text("topic", arguments.next("the topic")?)?;
+    arguments.end()?;
+    match table::named(&topic) {
+        Some(command) => output::say(&command.help()),
+        None if topic == "refusals" => output::say(&refusals()),
+        None => Err(Failure::usage(format!("there is no help on {topic}"))),
+    }
+}
+
+/// Tells the version.
+pub fn version(arguments: &mut Arguments) -> Result<(), Failure> {
+    arguments.end()?;
+    let version = env!("CARGO_PKG_VERSION");
+    let object = || Object::new().text("version", version).line();
+    output::say(&if arguments.manner().json { object() } else { format!("sj {version}\n") })
+}
+
+/// Tells every command with its options.
+pub fn commands(arguments: &mut Arguments) -> Result<(), Failure> {
+    arguments.end()?;
+    let mut told = String::new();
+    for command in &COMMANDS {
+        let flags: Vec<&str> = command.all_flags().iter().map(|flag| flag.name).collect();
+        let _ = writeln!(told, "{} {}", command.name, flags.join(" "));
+    }
+    output::say(&told)
+}
+
+fn overview() -> String {
+    let mut told =
+        String::from("sj reads and writes floppy images of Akai S900, S950 and S1000 samplers.\n\n");
+    for command in &COMMANDS {
+        for usage in command.usage {
+            let _ = writeln!(told, "  {usage}");
+        }
+    }
+    let _ = writeln!(
+        told,
+        "\nsj COMMAND --help tells a command's options. Every command takes --json, --quiet and --explain.\n"
+    );
+    told + NOTES
 }
 
 fn refusals() -> String {
@@ -59,8 +79,10 @@ fn refusals() -> String {
             Place::None => String::new(),
             counted => format!(" (place: {counted})"),
         };
-        let _ =
-            writeln!(told, "{:>2}  {}{place}\n    {}", refusal.number(), refusal.words(), refusal.advice());
+        let _ = writeln!(told, "{:>2}  {}{place}", refusal.number(), refusal.words());
+        for line in output::wrapped_to(96, refusal.advice()).lines() {
+            let _ = writeln!(told, "    {line}");
+        }
     }
     told
 }

@@ -1,26 +1,32 @@
-//! `sj ls IMAGE [--json]`
+//! `sj ls IMAGE|DIR..`
 
+use super::{check, many};
 use crate::arguments::Arguments;
 use crate::failure::Failure;
-use crate::{image_file, json, output};
+use crate::image_file;
+use crate::json::Object;
 use skilletjay::{Checked, Entry};
 use std::fmt::Write;
 
-/// Lists an image's files.
+/// Lists the files of every image.
 pub fn run(arguments: &mut Arguments) -> Result<(), Failure> {
-    let as_json = arguments.flag("--json");
-    let path = arguments.path("the image")?;
-    arguments.end()?;
-    let image = image_file::read_head(&path)?;
-    let refused = |refusal| Failure::refused(path.display(), refusal);
-    let checked = image.check().map_err(refused)?;
-    let entries = image.entries().map_err(refused)?;
-    output::say(&if as_json { in_json(&checked, &entries) } else { in_lines(&checked, &entries) })
+    let manner = arguments.manner();
+    many::each(arguments.some("the image")?, manner, |path| {
+        let image = image_file::read_head(path)?;
+        let about = many::about(path);
+        let refused = |refusal| Failure::refused(&about, refusal);
+        let checked = image.check().map_err(refused)?;
+        let entries = image.entries().map_err(refused)?;
+        Ok(if manner.json {
+            in_json(&about, &checked, &entries)
+        } else {
+            in_lines(&about, &checked, &entries)
+        })
+    })
 }
 
-fn in_lines(checked: &Checked, entries: &[Entry]) -> String {
-    let mut text =
-        format!("{} {}, files {}, free {}\n", checked.kind, checked.density, checked.files, checked.free);
+fn in_lines(about: &str, checked: &Checked, entries: &[Entry]) -> String {
+    let mut text = check::line(about, checked);
     for entry in entries {
         let (slot, file_type) = (entry.slot.to_string(), char::from(entry.file_type));
         let _ = writeln!(text, "{slot:>4} {file_type} {:>8} [{}]", entry.length, entry.name);
@@ -28,18 +34,17 @@ fn in_lines(checked: &Checked, entries: &[Entry]) -> String {
     text
 }
 
-fn in_json(checked: &Checked, entries: &[Entry]) -> String {
-    let entry = |entry: &Entry| {
-        let (name, file_type) = (json::quoted(&entry.name), char::from(entry.file_type));
-        let (slot, length) = (entry.slot.0, entry.length);
-        format!("{{\"slot\":{slot},\"name\":{name},\"type\":\"{file_type}\",\"length\":{length}}}")
-    };
-    let entries: Vec<String> = entries.iter().map(entry).collect();
-    let (kind, density) = (checked.kind, checked.density);
-    format!(
-        "{{\"kind\":\"{kind}\",\"density\":\"{density}\",\"files\":{},\"free\":{},\"entries\":[{}]}}\n",
-        checked.files,
-        checked.free,
-        entries.join(",")
-    )
+fn in_json(about: &str, checked: &Checked, entries: &[Entry]) -> String {
+    let entries: Vec<String> = entries.iter().map(|entry| fields(Object::new(), entry).inline()).collect();
+    check::object(about, checked).raw("entries", format!("[{}]", entries.join(","))).line()
+}
+
+/// A file of a disk as fields: its name without the padding, and as it is stored.
+pub fn fields(object: Object, entry: &Entry) -> Object {
+    object
+        .number("slot", entry.slot.0)
+        .text("name", entry.name.trim_end())
+        .text("stored", &entry.name)
+        .text("type", &char::from(entry.file_type).to_string())
+        .number("length", entry.length)
 }

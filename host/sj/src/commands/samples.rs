@@ -1,7 +1,7 @@
 //! `sj unpack SAMPLE -o FILE.wav` and `sj pack FILE.wav --like SAMPLE -o SAMPLE`
 
 use crate::arguments::Arguments;
-use crate::failure::Failure;
+use crate::failure::{Failure, shown};
 use crate::wav::Wav;
 use crate::{image_file, save};
 use skilletjay::{Kind, sample};
@@ -51,7 +51,7 @@ pub fn pack(arguments: &mut Arguments) -> Result<(), Failure> {
     let path = arguments.path("the WAV file")?;
     arguments.end()?;
     image_file::refuse_itself(&path, &to)?;
-    let name = path.display().to_string();
+    let name = shown(&path);
     let wav = read_wav(&name, &path)?;
     let (kind, file, _) = read_sample(&like)?;
     let header = header_for(kind, &file[..sample::header_length(kind)], &name, &wav)?;
@@ -65,9 +65,8 @@ pub fn pack(arguments: &mut Arguments) -> Result<(), Failure> {
 fn read_wav(name: &str, path: &Path) -> Result<Wav, Failure> {
     let file = image_file::read_up_to(path, MOST)?;
     if file.len() as u64 > MOST {
-        return Err(Failure::Refused(format!(
-            "{name}: it is longer than 16,777,215 bytes.\nCut it to what a disk holds, 1,595 blocks at most."
-        )));
+        let advice = "Cut it to what a disk holds, 1,595 blocks at most.";
+        return Err(Failure::declined(name, "it is longer than 16,777,215 bytes", advice));
     }
     Wav::read(name, &file)
 }
@@ -76,7 +75,7 @@ fn read_wav(name: &str, path: &Path) -> Result<Wav, Failure> {
 fn read_sample(path: &Path) -> Result<(Kind, Vec<u8>, Vec<i16>), Failure> {
     let file = image_file::read_up_to(path, MOST)?;
     let kind = sample::kind_of(&file);
-    let words = sample::words_of(kind, &file).map_err(|refusal| Failure::refused(path.display(), refusal))?;
+    let words = sample::words_of(kind, &file).map_err(|refusal| Failure::refused(shown(path), refusal))?;
     Ok((kind, file, words))
 }
 
@@ -85,11 +84,8 @@ fn read_sample(path: &Path) -> Result<(Kind, Vec<u8>, Vec<i16>), Failure> {
 fn header_for(kind: Kind, like: &[u8], name: &str, wav: &Wav) -> Result<Vec<u8>, Failure> {
     let Fields { rate, count, start, end, loop_length } = fields(kind);
     let Ok(new_rate) = u16::try_from(wav.rate) else {
-        return Err(Failure::Refused(format!(
-            "{name}: a rate of {} doesn't fit a sample's header.\n\
-             Resample the WAV file to 65,535 words a second or less.",
-            wav.rate
-        )));
+        let words = format!("a rate of {} doesn't fit a sample's header", wav.rate);
+        return Err(Failure::declined(name, words, "Resample it to 65,535 words a second or less."));
     };
     let mut header = like.to_vec();
     let four = |at: usize| u32::from_le_bytes([like[at], like[at + 1], like[at + 2], like[at + 3]]);
@@ -110,10 +106,11 @@ fn header_for(kind: Kind, like: &[u8], name: &str, wav: &Wav) -> Result<Vec<u8>,
 fn shifted_back(name: &str, words: &[i16]) -> Result<Vec<i16>, Failure> {
     let lost = (1 << SHIFT) - 1;
     match words.iter().position(|word| word & lost != 0) {
-        Some(at) => Err(Failure::Refused(format!(
-            "{name}: word {at} has more than 12 bits, and an S900 sample would lose its low four.\n\
-             Round the words to multiples of 16 first, or use an S1000 header."
-        ))),
+        Some(at) => {
+            let words =
+                format!("word {at} has more than 12 bits, and an S900 sample would lose its low four");
+            Err(Failure::declined(name, words, "Round the words with --round, or use an S1000 header."))
+        }
         None => Ok(words.iter().map(|word| word >> SHIFT).collect()),
     }
 }

@@ -1,0 +1,211 @@
+//! The table of commands: what each is called, takes and does. The help is made of it, and a test holds the man page and the
+//! completions to it.
+
+use super::{change, check, get, help, ls, program, put, samples};
+use crate::arguments::{Arguments, Flag};
+use crate::failure::Failure;
+use crate::output;
+use std::fmt::Write;
+
+/// A command.
+pub struct Command {
+    /// What it is called.
+    pub name: &'static str,
+    /// How it is used, a line each.
+    pub usage: &'static [&'static str],
+    /// What it does, in a line.
+    pub about: &'static str,
+    /// The options that it takes besides those that all take.
+    pub flags: &'static [&'static Flag],
+    /// What there is to know besides.
+    pub notes: &'static str,
+    /// Makes it.
+    pub run: fn(&mut Arguments) -> Result<(), Failure>,
+}
+
+impl Command {
+    /// Its options and those that every command takes.
+    pub fn all_flags(&self) -> Vec<&'static Flag> {
+        self.flags.iter().chain(&EVERY).copied().collect()
+    }
+
+    /// Its help.
+    pub fn help(&self) -> String {
+        let mut text = String::new();
+        for line in self.usage {
+            let _ = writeln!(text, "{line}");
+        }
+        let _ = writeln!(text, "\n{}\n", output::wrapped(&format!("{}. {}", self.about, self.notes)));
+        for flag in self.all_flags() {
+            let value = flag.value.map(|value| format!(" {value}")).unwrap_or_default();
+            let _ = writeln!(text, "  {:<20} {}", format!("{}{value}", flag.name), flag.about);
+        }
+        text
+    }
+}
+
+/// The command with a name.
+pub fn named(name: &str) -> Option<&'static Command> {
+    COMMANDS.iter().find(|command| command.name == name)
+}
+
+const JSON: Flag =
+    Flag { name: "--json", value: None, about: "one JSON object a line, refusals and failures too" };
+const QUIET: Flag = Flag { name: "--quiet", value: None, about: "tell refusals and failures only" };
+const EXPLAIN: Flag = Flag { name: "--explain", value: None, about: "tell what to do about a refusal" };
+const HELP: Flag = Flag { name: "--help", value: None, about: "tell this" };
+const H: Flag = Flag { name: "-h", value: None, about: "the same" };
+
+/// What every command takes.
+const EVERY: [&Flag; 5] = [&JSON, &QUIET, &EXPLAIN, &HELP, &H];
+
+const TO: Flag = Flag { name: "-o", value: Some("FILE"), about: "where to write; - is standard output" };
+const ALL: Flag = Flag { name: "--all", value: None, about: "every file, into the folder that -o names" };
+const FORCE_OUT: Flag = Flag { name: "--force", value: None, about: "replace files that are there" };
+const FORCE_IN: Flag = Flag {
+    name: "--force",
+    value: None,
+    about: "change an image though its owner, group, ACL or attributes can't be kept",
+};
+const TIMEOUT: Flag = Flag {
+    name: "--timeout",
+    value: Some("SECONDS"),
+    about: "how long to wait for another run on the image",
+};
+const NAME: Flag = Flag { name: "--name", value: Some("NAME"), about: "the name on the disk" };
+const TYPE: Flag = Flag { name: "--type", value: Some("T"), about: "the type, a letter" };
+const REPLACE: Flag = Flag { name: "--replace", value: None, about: "take the place of a file of that name" };
+const EMPTY: Flag = Flag { name: "--allow-empty-name", value: None, about: "take a name of spaces alone" };
+const LIKE: Flag =
+    Flag { name: "--like", value: Some("SAMPLE"), about: "the sample file whose header is taken" };
+const ROUND: Flag = Flag {
+    name: "--round",
+    value: None,
+    about: "round words for an S900, which has 12 bits, to the nearest",
+};
+const CLIP: Flag =
+    Flag { name: "--clip-loops", value: None, about: "move loops and markers past the last word back to it" };
+
+/// All commands, in the help's order.
+pub const COMMANDS: [Command; 12] = [
+    Command {
+        name: "check",
+        usage: &["sj check IMAGE|DIR.."],
+        about: "Tells whether images are accepted, and if not why",
+        flags: &[],
+        notes: "A folder stands for all files in it and below it, but for hidden ones. Of many images the closing line \
+                counts the accepted and the refused, these by their numbers.",
+        run: check::run,
+    },
+    Command {
+        name: "ls",
+        usage: &["sj ls IMAGE|DIR.."],
+        about: "Tells what images hold",
+        flags: &[],
+        notes: "A file's line has its slot, type, length and name. In JSON name is without its padding and stored \
+                is as the disk has it.",
+        run: ls::run,
+    },
+    Command {
+        name: "get",
+        usage: &["sj get IMAGE NAME|'#SLOT'.. [-o FILE|DIR]", "sj get IMAGE --all -o DIR"],
+        about: "Copies files out of an image, whole or not at all",
+        flags: &[&TO, &ALL, &FORCE_OUT],
+        notes: "'#0' is the file in slot 0 (in quotes, as a shell takes # for a comment). * and ? in a name stand for any \
+                characters and for one. Without -o a file gets its name and its type, NAME.t, and replaces nothing \
+                that is there but by --force. Of several files -o names the folder.",
+        run: get::run,
+    },
+    Command {
+        name: "put",
+        usage: &["sj put IMAGE FILE.. [--replace]", "sj put IMAGE FILE [--name NAME] [--type T] [--replace]"],
+        about: "Puts files into an image, all or none, and tells their slots",
+        flags: &[&NAME, &TYPE, &REPLACE, &EMPTY, &FORCE_IN, &TIMEOUT],
+        notes: "Name and type are those of a file called NAME.t, as get writes it, or for one file what the options \
+                say. With --replace a file that has the name goes when its successor is in; if that is refused it \
+                stays.",
+        run: put::run,
+    },
+    Command {
+        name: "mv",
+        usage: &["sj mv IMAGE OLD NEW"],
+        about: "Gives a file another name",
+        flags: &[&REPLACE, &EMPTY, &FORCE_IN, &TIMEOUT],
+        notes: "OLD is a name or a slot, as '#0'. The content and the type stay; the slot may be another, and is told.",
+        run: change::rename,
+    },
+    Command {
+        name: "rm",
+        usage: &["sj rm IMAGE NAME|'#SLOT'.."],
+        about: "Removes files from an image, all or none",
+        flags: &[&FORCE_IN, &TIMEOUT],
+        notes: "'#0' is the file in slot 0; * and ? in a name stand for any characters and for one.",
+        run: change::remove,
+    },
+    Command {
+        name: "unpack",
+        usage: &[
+            "sj unpack SAMPLE -o FILE.wav",
+            "sj unpack IMAGE NAME|'#SLOT'.. [-o FILE.wav|DIR]",
+            "sj unpack IMAGE --all -o DIR",
+        ],
+        about: "Makes WAV files of samples, of sample files or straight from an image",
+        flags: &[&TO, &ALL, &FORCE_OUT],
+        notes: "",
+        run: samples::unpack,
+    },
+    Command {
+        name: "pack",
+        usage: &["sj pack FILE.wav --like SAMPLE -o FILE [--name NAME] [--round] [--clip-loops]"],
+        about: "Makes a sample file of a WAV file and another sample's header",
+        flags: &[&LIKE, &TO, &NAME, &EMPTY, &ROUND, &CLIP],
+        notes: "",
+        run: samples::pack,
+    },
+    Command {
+        name: "program",
+        usage: &["sj program FILE.."],
+        about: "Tells whether files are S1000 programs, and of how many keygroups",
+        flags: &[],
+        notes: "",
+        run: program::run,
+    },
+    Command {
+        name: "help",
+        usage: &["sj help [COMMAND|refusals]"],
+        about: "Tells the commands, one command, or what every refusal means and what to do",
+        flags: &[],
+        notes: "",
+        run: help::run,
+    },
+    Command {
+        name: "version",
+        usage: &["sj --version"],
+        about: "Tells which version this is",
+        flags: &[],
+        notes: "",
+        run: help::version,
+    },
+    Command {
+        name: "commands",
+        usage: &["sj commands"],
+        about: "Tells each command with its options, a line each, for completions",
+        flags: &[],
+        notes: "",
+        run: help::commands,
+    },
+];
+
+#[cfg(test)]
+mod tests {
+    use super::*;
+
+    /// Help fits a terminal of 100 columns.
+    #[test]
+    fn help_has_no_long_line() {
+        for command in &COMMANDS {
+            let help = command.help();
+            assert!(help.lines().all(|line| line.chars().count() <= 100), "{help}");
+        }
+    }
+}

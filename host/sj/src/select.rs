@@ -1,0 +1,178 @@
+//! Which files of an image the words of a command line name.
+
+use crate::arguments::text;
+use crate::failure::Failure;
+use skilletjay::{Entry, Image, Kind, Refusal, Slot};
+use std::collections::HashSet;
+use std::ffi::OsString;
+
+/// `#` and digits alone are a slot; all else is a name.
+pub fn slot_number(which: &str) -> Option<Slot> {
+    let digits = which.strip_prefix('#')?;
+    if digits.is_empty() || !digits.bytes().all(|byte| byte.is_ascii_digit()) {
+        return None;
+    }
+    Some(Slot(digits.parse().unwrap_or(usize::MAX))) // a number too large is no slot either
+}
+
+/// Whether a word may name more than one file: it has a `*` or a `?`.
+pub fn is_pattern(word: &str) -> bool {
+    word.contains(['*', '?'])
+}
+
+/// Files of an image.
+pub struct Chosen {
+    /// What the slots hold.
+    pub entries: Vec<Entry>,
+    /// Whether one word names one file, and no pattern was matched.
+    pub single: bool,
+}
+
+/// The files that words name, each once, in the words' order: a slot, a name, or a pattern that stands for every name
+/// that it matches. A name that is on the disk to the letter is that file alone, also where it looks like a pattern.
+pub fn chosen<B: AsRef<[u8]>>(
+    about: &str,
+    image: &Image<B>,
+    words: Vec<OsString>,
+) -> Result<Chosen, Failure> {
+    let kind = image.check().map_err(|refusal| Failure::refused(about, refusal))?.kind;
+    let (mut taken, mut entries) = (HashSet::new(), Vec::new());
+    let mut single = words.len() == 1;
+    for word in words {
+        let word = text("name", word)?;
+        let (found, by_pattern) = named(about, image, kind, &word)?;
+        single &= !by_pattern;
+        entries.extend(found.into_iter().filter(|entry| taken.insert(entry.slot)));
+    }
+    Ok(Chosen { entries, single })
+}
+
+/// The files that a word names, and whether it is a pattern.
+fn named<B: AsRef<[u8]>>(
+    about: &str,
+    image: &Image<B>,
+    kind: Kind,
+    word: &str,
+) -> Result<(Vec<Entry>, bool), Failure> {
+    let refused = |refusal| refused_name(about, kind, word, refusal);
+    let found = match slot_number(word) {
+        Some(slot) => Ok(slot),
+        None => image.find(kind.padded(word)),
+    };
+    match found {
+        Ok(slot) => Ok((vec![image.list(slot).map_err(refused)?], false)),
+        Err(_) if is_pattern(word) => {
+            let mut entries = image.entries().map_err(refused)?;
+            entries.retain(|entry| matches(word, entry.name.trim_end()));
+            if entries.is_empty() {
+                let advice = "List the disk to see its names and slots.";
+                return Err(Failure::declined(about, "no file has such a name", advice).on(word));
+            }
+            Ok((entries, true))
+        }
+        Err(refusal) => Err(refused(refusal)),
+    }
+}
+
+/// Whether a pattern matches the whole of a name: `*` stands for any characters, `?` for one. Letters match in the
+/// case that they are written in.
+pub fn matches(pattern: &str, name: &str) -> bool {
+    let (pattern, name) = (pattern.as_bytes(), name.as_bytes());
+    let (mut at, mut from) = (0, 0);
+    let mut retry = None; // behind the last star, and how much of the name it took
+    while from < name.len() {
+        match pattern.get(at) {
+            Some(b'*') => {
+                retry = Some((at + 1, from));
+                at += 1;
+            }
+            Some(&byte) if byte == b'?' || byte == name[from] => (at, from) = (at + 1, from + 1),
+            _ => {
+                let Some((behind, took)) = retry else { return false };
+                retry = Some((behind, took + 1));
+                (at, from) = (behind, took + 1);
+            }
+        }
+    }
+    pattern[at..].iter().all(|&byte| byte == b'*')
+}
+
+/// A refusal about a name or a type, in the words of the disk's kind.
+pub fn refused_name(about: &str, kind: Kind, name: &str, refusal: Refusal) -> Failure {
+    match (refusal.number(), bad_character(kind, name)) {
+        (11, Some(words)) => Failure::refused_as(about, refusal, words).on(name),
+        _ => Failure::refused(about, refusal).on(name),
+    }
+}
+
+/// What is wrong with a name on a kind of disk, and the rule; None if it is legal.
+pub fn bad_character(kind: Kind, name: &str) -> Option<String> {
+    let (most, rule) = match kind {
+        Kind::S900 => (10, "an S900 name has at most 10 characters of ASCII, space to ~"),
+        Kind::S1000 => (12, "an S1000 name has at most 12 of 0-9, A-Z, space and # + - ."),
+    };
+    let legal = |character: &char| match kind {
+        Kind::S900 => matches!(character, ' '..='~'),
+        Kind::S1000 => matches!(character, '0'..='9' | 'A'..='Z' | ' ' | '#' | '+' | '-' | '.'),
+    };
+    let length = name.trim_end().chars().count();
+    match name.chars().position(|character| !legal(&character)) {
+        Some(at) => {
+            let character = name.chars().nth(at).unwrap_or_default();
+            Some(format!("the name's character {character:?} ({} of {length}) isn't legal: {rule}", at + 1))
+        }
+        None if length > most => Some(format!("the name has {length} characters: {rule}")),
+        None => None,
+    }
+}
+
+/// What is wrong with a type on a kind of disk, and the rule; None if it is legal.
+pub fn bad_type(kind: Kind, file_type: u8) -> Option<String> {
+    let (legal, rule) = match kind {
+        Kind::S900 => (file_type.is_ascii_uppercase(), "an S900 type is one of A to Z"),
+        Kind::S1000 => (file_type.is_ascii_lowercase(), "an S1000 type is one of a to z"),
+    };
+    let character = char::from(file_type);
+    (!legal).then(|| format!("the type {character:?} isn't legal: {rule}"))
+}
+
+#[cfg(test)]
+mod tests {
+    use super::*;
+
+    #[test]
+    fn slots_and_names_are_told_apart() {
+        assert_eq!(slot_number("#12"), Some(Slot(12)));
+        assert_eq!(slot_number("#99999999999999999999999"), Some(Slot(usize::MAX)));
+        assert_eq!([slot_number("12"), slot_number("#"), slot_number("#1 "), slot_number("#+1")], [None; 4]);
+    }
+
+    #[test]
+    fn patterns_match_whole_names() {
+        let yes = [
+            ("*", ""),
+            ("*", "A"),
+            ("A*", "A"),
+            ("A*C", "ABC"),
+            ("*B*", "ABC"),
+            ("A??", "ABC"),
+            ("*A*AB", "AAAAB"),
+        ];
+        let no =
+            [("?", ""), ("A", "AB"), ("A?", "A"), ("a*", "A"), ("*A", "AB"), ("", "A"), ("*AB*AB", "AB")];
+        yes.iter().for_each(|(pattern, name)| assert!(matches(pattern, name), "{pattern} {name}"));
+        no.iter().for_each(|(pattern, name)| assert!(!matches(pattern, name), "{pattern} {name}"));
+    }
+
+    #[test]
+    fn illegal_names_and_types_are_told_with_their_rule() {
+        assert_eq!(bad_character(Kind::S900, "a/b"), None);
+        assert_eq!(bad_character(Kind::S1000, "BASS C2"), None);
+        let words = bad_character(Kind::S1000, "A/B").expect("a slash");
+        assert!(words.contains("'/' (2 of 3)") && words.contains("S1000"), "{words}");
+        let words = bad_character(Kind::S900, "12345678901").expect("too long");
+        assert!(words.contains("11 characters"), "{words}");
+        assert!(bad_type(Kind::S900, b's').is_some_and(|words| words.contains("'s'")));
+        assert_eq!((bad_type(Kind::S900, b'S'), bad_type(Kind::S1000, b's')), (None, None));
+    }
+}
