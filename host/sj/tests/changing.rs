@@ -45,18 +45,18 @@ fn refused_changes_leave_the_image() {
     let put = |image: &str, file: &str, name: &str, file_type: &str| {
         folder.sj(&["put", image, file, "--name", name, "--type", file_type])
     };
-    put("full.img", "one", "NEW", "S").failed(1, &["NEW", "refusal 14", "Remove a file first"]);
-    put("a.img", "one", "NEW", "s").failed(1, &["refusal 11"]);
-    put("a.img", "one", "NAME TOO LONG", "S").failed(1, &["refusal 11"]);
+    put("full.img", "one", "NEW", "S").failed(1, &["full.img: NEW: all 64 slots are used (refusal 14)"]);
+    put("a.img", "one", "NEW", "s").failed(1, &["the type 's' isn't legal", "one of A to Z", "refusal 11"]);
+    put("a.img", "one", "NAME TOO LONG", "S").failed(1, &["13 characters", "at most 10", "refusal 11"]);
     put("a.img", "empty", "NEW", "S").failed(1, &["refusal 13"]);
     put("a.img", "one", "A", "P").failed(1, &["refusal 12, slot 0"]);
-    put("a.img", "long", "NEW", "S").failed(1, &["refusal 15"]);
+    put("a.img", "long", "NEW", "S").failed(1, &["needs 801 blocks, and 795 blocks are free (refusal 15)"]);
     put("a.img", "one", "NEW", "SS").failed(2, &["one letter"]);
     put("a.img", "none", "NEW", "S").failed(2, &["none"]);
     put("none.img", "one", "NEW", "S").failed(2, &["none.img"]);
-    folder.sj(&["put", "a.img", "one", "--type", "S"]).failed(2, &["--name is needed"]);
-    folder.sj(&["rm", "a.img", "B"]).failed(1, &["refusal 10"]);
-    folder.sj(&["rm", "a.img", "#0"]).failed(1, &["refusal 10", "rm takes #0 as a name"]);
+    folder.sj(&["put", "a.img", "one", "--type", "S"]).failed(2, &["one tells no name", "--name NAME"]);
+    folder.sj(&["rm", "a.img", "B"]).failed(1, &["a.img: B: there is no such file (refusal 10)"]);
+    folder.sj(&["rm", "a.img", "A", "#1"]).failed(1, &["a.img: #1: there is no such file (refusal 10)"]);
     folder.sj(&["rm", "a.img"]).failed(2, &["missing"]);
     assert!(folder.read("full.img") == image && folder.read("a.img") == roomy);
     assert_eq!(folder.names(), ["a.img", "empty", "full.img", "long", "one"]);
@@ -71,7 +71,7 @@ fn a_put_whose_slot_cant_be_told_says_that_it_was_done() {
     let full = fs::OpenOptions::new().write(true).open("/dev/full").expect("a full device");
     let mut command = folder.command(&["put", "a.img", "one", "--name", "A", "--type", "S"]);
     let ran = Ran::of(command.stdout(full).output().expect("sj runs"));
-    ran.failed(2, &["the file was put into #0, but standard output"]);
+    ran.failed(2, &["1 file put into #0, but standard output"]);
     assert_eq!(calls::find(&folder.read("a.img"), b"A         "), Ok(0));
 }
 
@@ -89,20 +89,22 @@ fn a_changed_image_keeps_mode_and_links() {
     assert!(folder.sj(&["ls", "a.img"]).done().contains("[A         ]"));
 }
 
-/// A name of digits and # is a name: the file goes, and not the one in that slot.
+/// A slot is a slot, also where a file is called so; that one goes by its own slot.
 #[test]
-fn rm_takes_names_alone() {
-    let folder = Folder::new("rm-names");
+fn rm_takes_slots() {
+    let folder = Folder::new("rm-slots");
     let mut image = vec![0; 819_200];
     for name in [b"A         ", b"#0        "] {
         calls::put(&mut image, name, b'S', b"x").expect("room");
     }
     folder.write("a.img", &image);
     fs::hard_link(folder.0.join("a.img"), folder.0.join("other.img")).expect("a link");
-    folder.sj(&["rm", "a.img", "#0"]).done();
+    folder.sj(&["rm", "a.img", "#1"]).done();
     assert!(folder.read("other.img") == image); // as the help says
     calls::remove(&mut image, b"#0        ").expect("there");
     assert!(folder.read("a.img") == image);
+    folder.sj(&["rm", "a.img", "#0"]).done();
+    assert_eq!(calls::check(&folder.read("a.img")).expect("accepted").files, 0);
 }
 
 /// The command run by nobody, who may not read what belongs to others; None where that isn't possible.

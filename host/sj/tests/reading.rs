@@ -21,21 +21,26 @@ fn check_tells_each_image_and_the_worst_status() {
     folder.write("b.img", &disk(S1000_HIGH, 64, 7, 2));
     folder.write("short.img", &[0; 819_199]);
     let said = folder.sj(&["check", "a.img", "b.img"]).done();
-    assert_eq!(said, "a.img: S900 low, files 5, free 100\nb.img: S1000 high, files 64, free 7\n");
-    folder
-        .sj(&["check", "short.img"])
-        .failed(1, &["short.img", "refusal 1", "819,200", "Read the disk again"]);
+    let lines = [
+        "a.img: S900 low, 5 files, 100 blocks free (102,400 bytes)",
+        "b.img: S1000 high, 64 files, 7 blocks free (7,168 bytes)",
+        "2 accepted, 0 refused",
+    ];
+    assert_eq!(said.lines().collect::<Vec<&str>>(), lines);
+    let words = "sj: short.img: the image is neither 819,200 nor 1,638,400 bytes long (refusal 1)\n";
+    assert_eq!(folder.sj(&["check", "short.img"]).err, words);
     let ran = folder.sj(&["check", "none.img", "short.img", "a.img"]);
-    assert_eq!((ran.status, ran.out.starts_with(b"a.img: S900 low")), (Some(2), true));
-    assert!(ran.err.contains("none.img") && ran.err.contains("short.img"), "{}", ran.err);
+    let said = String::from_utf8(ran.out).expect("text");
+    assert_eq!((ran.status, said.ends_with("\n1 accepted, 1 refused (1: 1), 1 not read\n")), (Some(2), true));
+    assert!(said.starts_with("a.img: S900 low") && ran.err.contains("none.img") && ran.err.contains(words));
     folder.sj(&["check"]).failed(2, &["the image is missing", "--help"]);
 }
 
-/// The same command on a pipe that gives the image.
-fn piped(folder: &Folder, words: &[&str]) -> Ran {
+/// The same command on a pipe that gives the image, under a name for it.
+fn piped(folder: &Folder, words: &[&str], name: &str) -> Ran {
     let mut shell = Command::new("sh");
     shell.args(["-c", "cat a.img | \"$@\"", "sh", env!("CARGO_BIN_EXE_sj")]);
-    shell.args(words.iter().map(|&word| if word == "a.img" { "/dev/stdin" } else { word }));
+    shell.args(words.iter().map(|&word| if word == "a.img" { name } else { word }));
     Ran::of(shell.current_dir(&folder.0).output().expect("sh runs"))
 }
 
@@ -55,13 +60,17 @@ fn files_and_pipes_are_told_alike() {
             let used = read(&image).ok().and_then(|disk| disk.files.iter().position(Option::is_some));
             let slot = format!("#{}", used.unwrap_or(0));
             let get = ["get", "a.img", &slot, "-o", "-"];
-            for words in [&["check", "a.img"][..], &["ls", "a.img"], &get] {
-                let (piped, plain) = (piped(&folder, words), folder.sj(words));
+            let words = [&["check", "a.img"][..], &["ls", "a.img"], &["ls", "--json", "a.img"], &get];
+            for (words, name) in words.into_iter().zip(["-", "/dev/stdin", "-", "-"]) {
+                let (piped, plain) = (piped(&folder, words, name), folder.sj(words));
                 assert_eq!(
                     (plain.status == Some(0), plain.status),
                     (calls::check(&image).is_ok(), piped.status)
                 );
-                let text = |bytes: &[u8]| String::from_utf8_lossy(bytes).replace("/dev/stdin", "a.img");
+                let text = |bytes: &[u8]| {
+                    let text = String::from_utf8_lossy(bytes);
+                    text.replace("/dev/stdin", "a.img").replace("standard input", "a.img")
+                };
                 let alike = piped.out == plain.out || words != get && text(&piped.out) == text(&plain.out);
                 assert!(alike, "{words:?}");
                 assert_eq!(text(piped.err.as_bytes()), plain.err);
@@ -81,7 +90,6 @@ fn other_lengths_are_refused() {
             folder.sj(&["ls", "a.img"]).failed(1, &["a.img", "refusal 1"]);
         }
     }
-    folder.sj(&["check", "."]).failed(2, &["directory"]);
 }
 
 #[test]
@@ -108,13 +116,15 @@ fn ls_lists_as_lines_and_as_json() {
     calls::put(&mut image, b"A \"B\\     ", b'S', &[1; 2150]).expect("room");
     calls::put(&mut image, b"PIANO     ", b'P', &[1; 38]).expect("room");
     folder.write("a.img", &image);
-    let lines = "S900 low, files 2, free 792\n  #0 S     2150 [A \"B\\     ]\n  #1 P       38 [PIANO     ]\n";
+    let lines = "a.img: S900 low, 2 files, 792 blocks free (811,008 bytes)\n  \
+        #0 S     2150 [A \"B\\     ]\n  #1 P       38 [PIANO     ]\n";
     assert_eq!(folder.sj(&["ls", "a.img"]).done(), lines);
-    let json = "{\"kind\":\"S900\",\"density\":\"low\",\"files\":2,\"free\":792,\"entries\":[\
-        {\"slot\":0,\"name\":\"A \\\"B\\\\     \",\"type\":\"S\",\"length\":2150},\
-        {\"slot\":1,\"name\":\"PIANO     \",\"type\":\"P\",\"length\":38}]}\n";
+    let json = "{\"file\":\"a.img\",\"kind\":\"S900\",\"density\":\"low\",\"files\":2,\"free\":792,\"free_bytes\":811008,\
+        \"entries\":[{\"slot\":0,\"name\":\"A \\\"B\\\\\",\"stored\":\"A \\\"B\\\\     \",\"type\":\"S\",\"length\":2150},\
+        {\"slot\":1,\"name\":\"PIANO\",\"stored\":\"PIANO     \",\"type\":\"P\",\"length\":38}]}\n";
     assert_eq!(folder.sj(&["ls", "--json", "a.img"]).done(), json);
-    folder.sj(&["ls", "a.img", "b.img"]).failed(2, &["too many"]);
+    let both = folder.sj(&["ls", "a.img", "a.img"]).done();
+    assert_eq!(both, format!("{lines}{lines}2 accepted, 0 refused\n"));
     folder.sj(&["ls", "a.img", "--jason"]).failed(2, &["no option --jason"]);
     folder.sj(&["ls", "none.img"]).failed(2, &["none.img"]);
 }
@@ -129,14 +139,16 @@ fn get_copies_whole_files() {
         let Some(file) = file else { continue };
         let name = String::from_utf8(file.name.clone()).expect("ASCII");
         folder.sj(&["get", "a.img", "-o", "by-name", "--", name.trim_end()]).done();
-        assert_eq!(folder.read("by-name"), content(&image, file));
+        assert!(folder.read("by-name") == content(&image, file));
         let ran = folder.sj(&["get", "a.img", &format!("#{slot}"), "-o", "-"]);
-        assert_eq!((ran.status, ran.out), (Some(0), content(&image, file)));
+        assert!(ran.status == Some(0) && ran.out == content(&image, file));
     }
-    folder.sj(&["get", "a.img", "NOT HERE"]).failed(1, &["refusal 10", "List the disk"]);
+    folder
+        .sj(&["get", "a.img", "NOT HERE"])
+        .failed(1, &["a.img: NOT HERE: there is no such file (refusal 10)"]);
     folder.sj(&["get", "a.img", "#64"]).failed(1, &["refusal 10"]);
     folder.sj(&["get", "a.img", "lower case"]).failed(1, &["refusal 11", "12 of 0-9, A-Z"]);
-    folder.sj(&["get", "a.img"]).failed(2, &["name or #slot is missing"]);
+    folder.sj(&["get", "a.img"]).failed(2, &["name or '#slot' is missing"]);
     folder.sj(&["get", "a.img", "X", "-o"]).failed(2, &["-o needs a value"]);
     assert_eq!(folder.names(), ["a.img", "by-name"]);
 }
@@ -184,7 +196,9 @@ fn get_all_copies_every_file() {
     }
     folder.write("a.img", &image);
     folder.sj(&["get", "a.img", "--all"]).failed(2, &["-o DIR"]);
-    folder.sj(&["get", "a.img", "--all", "-o", "all"]).done();
+    let said = folder.sj(&["get", "a.img", "--all", "-o", "all"]).done();
+    assert_eq!(said, "#0 [a/b] -> all/a_b.S\n#1 [A_B] -> all/1-A_B.S\n#2 [..] -> all/_...S\n");
+    folder.sj(&["get", "a.img", "--all", "-o", "-"]).failed(2, &["a folder", "- is standard output"]);
     let all = Folder(folder.0.join("all"));
     assert_eq!(all.names(), ["1-A_B.S", "_...S", "a_b.S"]);
     assert_eq!(
@@ -245,10 +259,20 @@ fn a_closed_standard_output_fails_get_alone() {
 #[test]
 fn help_and_wrong_commands() {
     let folder = Folder::new("help");
-    assert!(folder.sj(&["--help"]).done().contains("sj put IMAGE FILE --name NAME --type T"));
+    let help = folder.sj(&["--help"]).done();
+    assert!(help.contains("  sj put IMAGE FILE [--name NAME] [--type T] [--replace]\n"), "{help}");
+    assert!(help.contains("'#SLOT'") && !help.replace("'#", "").contains('#'), "{help}");
+    for command in ["check", "ls", "get", "put", "mv", "rm", "unpack", "pack", "program", "help"] {
+        let said = folder.sj(&["help", command]).done();
+        assert!(said.starts_with(&format!("sj {command}")) && said.contains("  --json"), "{said}");
+        assert_eq!(folder.sj(&[command, "--help"]).done(), said);
+        assert_eq!(folder.sj(&[command, "-h", "x"]).done(), said);
+    }
     let refusals = folder.sj(&["help", "refusals"]).done();
     (1..=21).for_each(|number| assert!(refusals.contains(&format!("\n{number:>2}  ")), "{number}"));
+    assert!(help.lines().chain(refusals.lines()).all(|line| line.chars().count() <= 100));
     folder.sj(&["help", "nothing"]).failed(2, &["no help on nothing"]);
     folder.sj(&[]).failed(2, &["which command?"]);
     folder.sj(&["dance"]).failed(2, &["no command dance"]);
+    assert_eq!(folder.sj(&["--version"]).done(), format!("sj {}\n", env!("CARGO_PKG_VERSION")));
 }

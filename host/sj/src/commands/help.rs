@@ -8,7 +8,9 @@ use crate::output;
 use skilletjay::{Place, Refusal};
 use std::fmt::Write;
 
-const NOTES: &str = "\
+const NOTES: &str = "
+sj COMMAND --help tells a command's options; all take --json, --quiet and --explain.
+
 Names are padded with spaces to the disk's length. '#0' is the file in slot 0. - as a file to read is
 standard input, and after -o standard output. -- ends the options, and --name=A is --name A.
 
@@ -44,17 +46,6 @@ pub fn version(arguments: &mut Arguments) -> Result<(), Failure> {
     output::say(&if arguments.manner().json { object() } else { format!("sj {version}\n") })
 }
 
-/// Tells every command with its options.
-pub fn commands(arguments: &mut Arguments) -> Result<(), Failure> {
-    arguments.end()?;
-    let mut told = String::new();
-    for command in &COMMANDS {
-        let flags: Vec<&str> = command.all_flags().iter().map(|flag| flag.name).collect();
-        let _ = writeln!(told, "{} {}", command.name, flags.join(" "));
-    }
-    output::say(&told)
-}
-
 fn overview() -> String {
     let mut told =
         String::from("sj reads and writes floppy images of Akai S900, S950 and S1000 samplers.\n\n");
@@ -63,10 +54,6 @@ fn overview() -> String {
             let _ = writeln!(told, "  {usage}");
         }
     }
-    let _ = writeln!(
-        told,
-        "\nsj COMMAND --help tells a command's options. Every command takes --json, --quiet and --explain.\n"
-    );
     told + NOTES
 }
 

@@ -129,8 +129,9 @@ pub fn put_named(
         }
         15 => {
             let free = image.check().map_or(0, |checked| checked.free);
-            let (needs, free) = (counting(content.len().div_ceil(BLOCK), "block"), counting(free, "block"));
-            Failure::refused_as(about, refusal, format!("it needs {needs}, and {free} are free")).on(name)
+            let needs = counting(content.len().div_ceil(BLOCK), "block");
+            let (free, are) = (counting(free, "block"), if free == 1 { "is" } else { "are" });
+            Failure::refused_as(about, refusal, format!("it needs {needs}, and {free} {are} free")).on(name)
         }
         _ => select::refused_name(about, kind, name, refusal),
     })

@@ -87,7 +87,7 @@ const CLIP: Flag =
     Flag { name: "--clip-loops", value: None, about: "move loops and markers past the last word back to it" };
 
 /// All commands, in the help's order.
-pub const COMMANDS: [Command; 12] = [
+pub const COMMANDS: [Command; 11] = [
     Command {
         name: "check",
         usage: &["sj check IMAGE|DIR.."],
@@ -185,14 +185,6 @@ pub const COMMANDS: [Command; 12] = [
         flags: &[],
         notes: "",
         run: help::version,
-    },
-    Command {
-        name: "commands",
-        usage: &["sj commands"],
-        about: "Tells each command with its options, a line each, for completions",
-        flags: &[],
-        notes: "",
-        run: help::commands,
     },
 ];
 
