@@ -8,21 +8,18 @@ use crate::output;
 use skilletjay::{Place, Refusal};
 use std::fmt::Write;
 
-const NOTES: &str = "
-sj COMMAND --help tells a command's options; all take --json, --quiet and --explain.
-
-Names are padded with spaces to the disk's length. '#0' is the file in slot 0. - as a file to read is
-standard input, and after -o standard output. -- ends the options, and --name=A is --name A.
-
-An image is changed in a copy beside it, which then takes its place with owner, group, mode, ACL and
-extended attributes: a run that fails leaves the image as it was, and of two runs at once one waits
-for the other. An interrupted run may leave the copy, a hidden file .sj- and some numbers; the next
-run that changes the image removes it. Files that are copied out are written in the same way; what an
-interrupted get left may be removed by hand. A changed image is a new file: where it has more than
-one name (hard links), the others keep the old one.
-
-Exit status: 0 done, 1 refused, 2 wrong usage or a file that can't be read or written.
-";
+/// What there is to know besides, a paragraph each.
+const NOTES: [&str; 4] = [
+    "sj COMMAND --help tells a command's options; all take --json, --quiet and --explain.",
+    "Names are padded with spaces to the disk's length. '#0' is the file in slot 0. - as a file to read is standard \
+     input, and after -o standard output. -- ends the options, and --name=A is --name A.",
+    "An image is changed in a copy beside it, which then takes its place with owner, group, mode, ACL and extended \
+     attributes: a run that fails leaves the image as it was, and of two runs at once one waits for the other. An \
+     interrupted run may leave the copy, a hidden file .sj- and some numbers; the next run that changes the image \
+     removes it. Files that are copied out are written in the same way; what an interrupted get left may be removed \
+     by hand. A changed image is a new file: where it has more than one name (hard links), the others keep the old one.",
+    "Exit status: 0 done, 1 refused, 2 wrong usage or a file that can't be read or written.",
+];
 
 /// Tells the commands, one of them, or the refusals.
 pub fn run(arguments: &mut Arguments) -> Result<(), Failure> {
@@ -54,7 +51,10 @@ fn overview() -> String {
             let _ = writeln!(told, "  {usage}");
         }
     }
-    told + NOTES
+    for note in NOTES {
+        let _ = write!(told, "\n{}\n", output::wrapped(note));
+    }
+    told
 }
 
 fn refusals() -> String {
