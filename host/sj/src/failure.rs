@@ -9,7 +9,8 @@ use std::io;
 use std::path::Path;
 use std::process::ExitCode;
 
-/// A failure: what to tell, and the status. In a box, so that what doesn't fail pays little for it.
+/// A failure: what to tell, and the status. It is about files by their names as they are; they are quoted, if need be, when
+/// it is told. In a box, so that what doesn't fail pays little for it.
 #[derive(Debug)]
 pub struct Failure(Box<Told>);
 
@@ -64,7 +65,7 @@ impl Failure {
 
     /// A file that can't be read or written.
     pub fn file(path: &Path, error: io::Error) -> Failure {
-        Failure::new(2, shown(path), error)
+        Failure::new(2, named(path), error)
     }
 
     /// Something that stands in the way of reading or writing, in words.
@@ -74,7 +75,7 @@ impl Failure {
 
     /// The same, about a file on the image.
     pub fn on(self, name: &str) -> Failure {
-        self.with(|told| told.name = shown(Path::new(name.trim_end())))
+        self.with(|told| told.name = name.trim_end().to_string())
     }
 
     /// All was told already; the status alone is left.
@@ -95,7 +96,10 @@ impl Failure {
 
     /// What it is about, before the words.
     fn start(&self) -> String {
-        let with_colon = |about: &String| if about.is_empty() { String::new() } else { format!("{about}: ") };
+        let with_colon = |about: &str| match about {
+            "" => String::new(),
+            about => format!("{}: ", plain(about)),
+        };
         with_colon(&self.0.about) + &with_colon(&self.0.name)
     }
 
@@ -161,12 +165,19 @@ fn counted(counts: Place) -> String {
     if counts == Place::None { String::new() } else { counts.to_string() }
 }
 
-/// A path as it may be printed: in quotes, with escapes, where it holds what would not show as itself.
+/// What a path of a file to read is called: its text, or standard input.
+pub fn named(path: &Path) -> String {
+    if path.as_os_str() == "-" { "standard input".into() } else { path.display().to_string() }
+}
+
+/// A text as it may be printed: in quotes, with escapes, where it holds what would not show as itself.
+pub fn plain(text: &str) -> String {
+    if text.is_empty() || text.chars().any(char::is_control) { format!("{text:?}") } else { text.to_string() }
+}
+
+/// A path as it may be printed.
 pub fn shown(path: &Path) -> String {
-    match path.to_str() {
-        Some(text) if !text.is_empty() && !text.chars().any(char::is_control) => text.to_string(),
-        _ => format!("{path:?}"),
-    }
+    path.to_str().map_or_else(|| format!("{path:?}"), plain)
 }
 
 /// A number with what it counts, one or many.

@@ -258,6 +258,8 @@ fn messages_are_short_and_plain() {
     folder.write("bad\n.img", &[0; 10]);
     let told = folder.sj(&["check", "bad\n.img"]).err;
     assert!(told.starts_with("sj: \"bad\\n.img\": the image is neither"), "{told}");
+    let told = String::from_utf8(folder.sj(&["check", "bad\n.img", "--json"]).out).expect("text");
+    assert!(told.starts_with("{\"file\":\"bad\\u000a.img\",\"refusal\":1"), "{told}");
     let told = folder.sj(&["check", "bad\n.img", "--explain"]).err;
     assert_eq!(
         told.lines().nth(1).map(|line| line.starts_with("    Read the disk again")),

@@ -4,7 +4,7 @@ use super::check::changeable;
 use super::ls;
 use super::put::{put_named, refuse_empty};
 use crate::arguments::{Arguments, text};
-use crate::failure::{Failure, shown};
+use crate::failure::{Failure, named};
 use crate::image_file::{self, Changing};
 use crate::json::Object;
 use crate::manner::Manner;
@@ -22,7 +22,7 @@ pub fn rename(arguments: &mut Arguments) -> Result<(), Failure> {
     let new = text("name", arguments.next("the new name")?)?;
     arguments.end()?;
     refuse_empty(arguments, &new)?;
-    let about = shown(&path);
+    let about = named(&path);
     let entry = image_file::change(&path, how, |image| {
         let chosen = select::chosen(&about, image, vec![old])?;
         match &chosen.entries[..] {
@@ -53,7 +53,7 @@ pub fn remove(arguments: &mut Arguments) -> Result<(), Failure> {
     let path: PathBuf = arguments.path("the image")?;
     changeable(&path)?;
     let words = arguments.some("the file's name or '#slot'")?;
-    let about = shown(&path);
+    let about = named(&path);
     let chosen = image_file::change(&path, how, |image| {
         let chosen = select::chosen(&about, image, words)?;
         for entry in &chosen.entries {
@@ -69,7 +69,7 @@ pub fn remove(arguments: &mut Arguments) -> Result<(), Failure> {
 fn tell(path: &Path, manner: Manner, entries: &[Entry], news: bool) -> Result<(), Failure> {
     for entry in entries {
         if manner.json {
-            output::say(&ls::fields(Object::new().text("file", &shown(path)), entry).line())?;
+            output::say(&ls::fields(Object::new().text("file", &named(path)), entry).line())?;
         } else if news && !manner.quiet {
             output::say(&format!("{} [{}]\n", entry.slot, entry.name.trim_end()))?;
         }

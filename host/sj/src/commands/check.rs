@@ -2,7 +2,7 @@
 
 use super::many;
 use crate::arguments::Arguments;
-use crate::failure::{Failure, counting};
+use crate::failure::{Failure, counting, named, plain};
 use crate::image_file;
 use crate::json::Object;
 use skilletjay::{BLOCK, Checked};
@@ -13,7 +13,7 @@ pub fn run(arguments: &mut Arguments) -> Result<(), Failure> {
     let manner = arguments.manner();
     many::each(arguments.some("the image")?, manner, |path| {
         let image = image_file::read_head(path)?;
-        let about = many::about(path);
+        let about = named(path);
         let checked = image.check().map_err(|refusal| Failure::refused(&about, refusal))?;
         Ok(if manner.json { object(&about, &checked).line() } else { line(&about, &checked) })
     })
@@ -24,6 +24,7 @@ pub fn line(about: &str, checked: &Checked) -> String {
     let (kind, density) = (checked.kind, checked.density);
     let (files, blocks) = (counting(checked.files, "file"), counting(checked.free, "block"));
     let bytes = counting(BLOCK * checked.free, "byte");
+    let about = plain(about);
     format!("{about}: {kind} {density}, {files}, {blocks} free ({bytes})\n")
 }
 

@@ -1,8 +1,8 @@
 //! `sj get IMAGE NAME|'#SLOT'.. [-o FILE|DIR]` and `sj get IMAGE --all -o DIR`
 
-use super::{ls, many};
+use super::ls;
 use crate::arguments::Arguments;
-use crate::failure::{Failure, counting, shown};
+use crate::failure::{Failure, counting, named, shown};
 use crate::image_file::Opened;
 use crate::json::Object;
 use crate::manner::Manner;
@@ -18,7 +18,7 @@ pub fn run(arguments: &mut Arguments) -> Result<(), Failure> {
     let (force, manner) = (arguments.flag("--force"), arguments.manner());
     let to = arguments.value("-o").map(PathBuf::from);
     let path = arguments.path("the image")?;
-    let about = many::about(&path);
+    let about = named(&path);
     let opened = Opened::new(&path)?;
     if arguments.flag("--all") {
         arguments.end()?;
@@ -44,12 +44,12 @@ struct Out {
 impl Out {
     /// Only the image's head and the file's own blocks are read.
     fn one(&self, mut opened: Opened, entry: &Entry, to: Option<PathBuf>) -> Result<(), Failure> {
-        let named = to.is_some();
+        let asked = to.is_some();
         let to = to.unwrap_or_else(|| PathBuf::from(outside::file_name(entry)));
-        self.free_to_write(&to, named || self.force)?;
+        self.free_to_write(&to, asked || self.force)?;
         opened.fetch_file(entry.slot)?;
         download(&self.path, opened.image(), entry, &to)?;
-        if to.as_os_str() == "-" || named && !self.manner.json {
+        if to.as_os_str() == "-" || asked && !self.manner.json {
             return Ok(()); // the caller knows where it is
         }
         self.tell(entry, &to)
@@ -97,8 +97,8 @@ impl Out {
             return Ok(());
         }
         if self.manner.json {
-            let object = Object::new().text("file", &many::about(&self.path));
-            return output::say(&ls::fields(object, entry).text("to", &shown(to)).line());
+            let object = Object::new().text("file", &named(&self.path));
+            return output::say(&ls::fields(object, entry).text("to", &to.display().to_string()).line());
         }
         output::say(&format!("{} [{}] -> {}\n", entry.slot, entry.name.trim_end(), shown(to)))
     }
@@ -109,10 +109,10 @@ fn download(path: &Path, image: Image<&[u8]>, entry: &Entry, to: &Path) -> Resul
     let mut draft = Draft::new(to)?;
     let mut pages = image.download(entry.slot);
     for page in &mut pages {
-        draft.write(&page.map_err(|refusal| Failure::refused(shown(path), refusal))?)?;
+        draft.write(&page.map_err(|refusal| Failure::refused(named(path), refusal))?)?;
     }
     if !pages.is_complete() || pages.offset() != entry.length {
-        return Err(Failure::declined(shown(path), format!("{} isn't complete", entry.name), ""));
+        return Err(Failure::declined(named(path), format!("{} isn't complete", entry.name), ""));
     }
     draft.keep()
 }

@@ -2,7 +2,7 @@
 
 use super::{check, many};
 use crate::arguments::Arguments;
-use crate::failure::Failure;
+use crate::failure::{Failure, named};
 use crate::image_file;
 use crate::json::Object;
 use skilletjay::{Checked, Entry};
@@ -13,7 +13,7 @@ pub fn run(arguments: &mut Arguments) -> Result<(), Failure> {
     let manner = arguments.manner();
     many::each(arguments.some("the image")?, manner, |path| {
         let image = image_file::read_head(path)?;
-        let about = many::about(path);
+        let about = named(path);
         let refused = |refusal| Failure::refused(&about, refusal);
         let checked = image.check().map_err(refused)?;
         let entries = image.entries().map_err(refused)?;

@@ -1,7 +1,7 @@
 //! Commands on many images: folders stand for what is in them, one image's failure keeps none of the others from being
 //! told, and a closing line counts.
 
-use crate::failure::{Failure, shown};
+use crate::failure::Failure;
 use crate::json::Object;
 use crate::manner::Manner;
 use crate::progress::Progress;
@@ -33,7 +33,7 @@ pub fn each(
     let (mut images, mut folders) = (Vec::new(), false);
     for word in words {
         let path = PathBuf::from(word);
-        if fs::metadata(&path).is_ok_and(|about| about.is_dir()) {
+        if path.as_os_str() != "-" && fs::metadata(&path).is_ok_and(|about| about.is_dir()) {
             folders = true;
             gather(&path, &mut images, &mut |failure| tally.fails(&failure, manner));
         } else {
@@ -107,9 +107,4 @@ impl Tally {
         let failed = if self.failed == 0 { String::new() } else { format!(", {} not read", self.failed) };
         format!("{} accepted, {refused} refused{by}{failed}\n", self.accepted)
     }
-}
-
-/// A path for a line.
-pub fn about(path: &Path) -> String {
-    if path.as_os_str() == "-" { "standard input".into() } else { shown(path) }
 }

@@ -1,9 +1,9 @@
 //! `sj put IMAGE FILE..`
 
 use super::check::changeable;
-use super::{ls, many};
+use super::ls;
 use crate::arguments::{Arguments, text};
-use crate::failure::{Failure, counting, shown};
+use crate::failure::{Failure, counting, named, plain};
 use crate::image_file::{self, Changing};
 use crate::json::Object;
 use crate::manner::Manner;
@@ -30,7 +30,7 @@ pub fn run(arguments: &mut Arguments) -> Result<(), Failure> {
     let path = arguments.path("the image")?;
     changeable(&path)?;
     let files = new_files(arguments)?;
-    let entries = image_file::change(&path, how, |image| put_all(&shown(&path), image, &files, replace))?;
+    let entries = image_file::change(&path, how, |image| put_all(&named(&path), image, &files, replace))?;
     let done = if let [entry] = &entries[..] { entry.slot.to_string() } else { "the image".into() };
     tell(&path, manner, &files, &entries)
         .map_err(|failure| failure.after(format!("{} put into {done}", counting(files.len(), "file"))))
@@ -74,7 +74,7 @@ fn split(from: &Path) -> (Option<String>, Option<u8>) {
 }
 
 fn unnamed(from: &Path, what: &str, option: &str) -> Failure {
-    Failure::usage(format!("{} tells no {what}: call it NAME.t, or give {option}", many::about(from)))
+    Failure::usage(format!("{} tells no {what}: call it NAME.t, or give {option}", plain(&named(from))))
 }
 
 fn one_letter(word: &str) -> Result<u8, Failure> {
@@ -96,10 +96,7 @@ fn put_all(about: &str, image: &mut Image, files: &[New], replace: bool) -> Resu
     let kind = image.check().map_err(|refusal| Failure::refused(about, refusal))?.kind;
     let mut names = HashSet::new();
     if let Some(twice) = files.iter().find(|file| !names.insert(kind.padded(&file.name))) {
-        return Err(Failure::usage(format!(
-            "{} is the name of two of the files",
-            shown(Path::new(&twice.name))
-        )));
+        return Err(Failure::usage(format!("{} is the name of two of the files", plain(&twice.name))));
     }
     files.iter().map(|file| put_one(about, image, kind, file, replace)).collect()
 }
@@ -141,14 +138,14 @@ pub fn put_named(
 fn tell(path: &Path, manner: Manner, files: &[New], entries: &[Entry]) -> Result<(), Failure> {
     for (file, entry) in files.iter().zip(entries) {
         let line = if manner.json {
-            let object = Object::new().text("file", &shown(path));
-            ls::fields(object, entry).text("from", &many::about(&file.from)).line()
+            let object = Object::new().text("file", &named(path));
+            ls::fields(object, entry).text("from", &named(&file.from)).line()
         } else if manner.quiet {
             continue;
         } else if let [_] = files {
             format!("{}\n", entry.slot)
         } else {
-            format!("{} -> {} [{}]\n", many::about(&file.from), entry.slot, entry.name.trim_end())
+            format!("{} -> {} [{}]\n", plain(&named(&file.from)), entry.slot, entry.name.trim_end())
         };
         output::say(&line)?;
     }
