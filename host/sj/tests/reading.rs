@@ -197,7 +197,7 @@ fn get_all_copies_every_file() {
     folder.write("a.img", &image);
     folder.sj(&["get", "a.img", "--all"]).failed(2, &["-o DIR"]);
     let said = folder.sj(&["get", "a.img", "--all", "-o", "all"]).done();
-    assert_eq!(said, "#0 [a/b] -> all/a_b.S\n#1 [A_B] -> all/1-A_B.S\n#2 [..] -> all/_...S\n");
+    assert_eq!(said, "#0 [a/b] -> a_b.S\n#1 [A_B] -> 1-A_B.S\n#2 [..] -> _...S\n");
     folder.sj(&["get", "a.img", "--all", "-o", "-"]).failed(2, &["a folder", "- is standard output"]);
     let all = Folder(folder.0.join("all"));
     assert_eq!(all.names(), ["1-A_B.S", "_...S", "a_b.S"]);

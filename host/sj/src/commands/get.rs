@@ -100,7 +100,8 @@ impl Out {
             let object = Object::new().text("file", &named(&self.path));
             return output::say(&ls::fields(object, entry).text("to", &to.display().to_string()).line());
         }
-        output::say(&format!("{} [{}] -> {}\n", entry.slot, entry.name.trim_end(), shown(to)))
+        let name = to.file_name().map(Path::new).unwrap_or(to); // the folder is the caller's own
+        output::say(&format!("{} [{}] -> {}\n", entry.slot, entry.name.trim_end(), shown(name)))
     }
 }
 
