@@ -4,25 +4,10 @@
  * not const. Slices are a pointer and a length; a slice of length 0 may be a null pointer. Nothing that is lent to one call
  * may overlap anything else that is lent to it.
  *
- * `refusal` is 0 when the call was done, else the number of the refusal; then `place` is its place and every other field is 0.
+ * `refusal` is SJ_DONE, 0, when the call was done, else the number of the refusal; then `place` is its place and every other field is 0.
  *
- *   1 image length            place 0        6 chain leaves the data area    slot
- *   2 kind not known          place 0        7 chain of the wrong length     slot
- *   3 system value            block          8 block on two chains           higher slot
- *   4 malformed slot          slot           9 block used without a file     block
- *   5 name twice              higher slot   10 no such file, or empty slot   place 0
- *                                           11 name or type not legal        place 0
- *                                           12 name in use                   its slot
- *                                           13 no content                    place 0
- *                                           14 all slots used                place 0
- *                                           15 more blocks than are free     place 0
- *                                           16 content over 16,777,215 bytes place 0
- *                                           17 offset above the length       place 0
- *
- *   18 sample file or header refused   the offset, 0 for its size
- *   19 word outside -2,048 to 2,047    the lowest word's index
- *   20 program file refused            the offset, 0 for its size
- *   21 output shorter than what is due place 0
+ * Calls share nothing. Any number of them may read one image at once, each from a thread of its own; one that writes to it (sj_put, sj_remove,
+ * sj_run) needs it alone.
  *
  * Every call on an image checks it first and refuses by 1 to 9 before it looks at its other arguments.
  */
@@ -33,9 +18,50 @@
 #include <stddef.h>
 #include <stdint.h>
 
+#define SJ_VERSION "0.2.0"
+#define SJ_VERSION_MAJOR 0
+#define SJ_VERSION_MINOR 2
+#define SJ_VERSION_PATCH 0
+
 #ifdef __cplusplus
 extern "C" {
 #endif
+
+/* What a result's `refusal` may be. Places count from 0; the lowest one is given, and it is 0 where none is named here. */
+typedef enum {
+    SJ_DONE = 0,
+
+    /* of the image: sj_check, and every call on an image */
+    SJ_IMAGE_LENGTH = 1,   /* neither 819,200 nor 1,638,400 bytes */
+    SJ_UNKNOWN_KIND = 2,   /* the directory's identities are of no kind */
+    SJ_SYSTEM_BLOCK = 3,   /* not marked as one in an S1000 disk's map; place: the block */
+    SJ_MALFORMED_SLOT = 4, /* name, type or length of a used slot; place: the slot */
+    SJ_NAME_TWICE = 5,     /* place: the higher slot */
+    SJ_CHAIN_ASTRAY = 6,   /* a file's chain leaves the data area; place: the slot */
+    SJ_CHAIN_LENGTH = 7,   /* a file's chain is shorter or longer than the file; place: the slot */
+    SJ_SHARED_BLOCK = 8,   /* a block on two chains; place: the higher slot */
+    SJ_STRAY_BLOCK = 9,    /* marked as used, and on no file's chain; place: the block */
+
+    /* of the call */
+    SJ_NO_SUCH_FILE = 10,    /* or the slot is empty, or there is no such slot */
+    SJ_NAME_OR_TYPE = 11,    /* not legal on this disk */
+    SJ_NAME_IN_USE = 12,     /* place: the slot of the file that has it */
+    SJ_NO_CONTENT = 13,      /* a content of 0 bytes */
+    SJ_NO_SLOT = 14,         /* all 64 are used */
+    SJ_NO_ROOM = 15,         /* the content needs more blocks than are free */
+    SJ_CONTENT_LENGTH = 16,  /* over 16,777,215 bytes; SJ_NO_ROOM is asked first, so it is never given */
+    SJ_OFFSET_TOO_HIGH = 17, /* above the file's length */
+
+    /* of files outside the disk, and of what is lent */
+    SJ_SAMPLE_FILE = 18,  /* the file or its header is refused; place: the offset, 0 for its size */
+    SJ_WORD_RANGE = 19,   /* outside -2,048 to 2,047; place: the lowest word's index */
+    SJ_PROGRAM_FILE = 20, /* the file is refused; place: the offset, 0 for its size */
+    SJ_OUTPUT_LENGTH = 21 /* shorter than what is due */
+} sj_refusal;
+
+/* A refusal in words, as a sentence without its full stop; a number that is none has words too. The text is constant, and never null. This
+ * function alone isn't of the proved library: it is c/sj_words.c, which the archive that is installed has too. */
+const char *sj_words(uint32_t refusal);
 
 typedef struct {
     uint32_t refusal;

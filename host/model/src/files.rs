@@ -67,3 +67,28 @@ pub fn program(keygroups: usize, random: &mut Random) -> Vec<u8> {
     file[KEYGROUPS_AT] = keygroups as u8;
     file
 }
+
+/// Header bytes 1 to 72 of a program as published; the others aren't used.
+const HEADER: [u8; 72] = [
+    1, 150, 0, 10, 10, 10, 10, 10, 10, 10, 10, 10, 10, 10, 10, 0, 0, 15, 1, 24, 127, 0, 255, 99, 0, 80, 20,
+    0, 0, 50, 0, 0, 0, 50, 0, 0, 30, 0, 0, 2, 0, 0, 1, 0, 0, 0, 0, 0, 0, 0, 0, 0, 0, 0, 0, 0, 0, 0, 0, 1, 0,
+    0, 10, 10, 10, 0, 0, 0, 0, 0, 1, 0,
+];
+/// Keygroup bytes 1 to 34.
+const KEYGROUP: [u8; 34] = [
+    2, 44, 1, 24, 127, 0, 0, 99, 12, 0, 0, 0, 0, 30, 99, 45, 0, 0, 0, 0, 0, 50, 99, 45, 0, 0, 0, 0, 0, 0, 1,
+    4, 255, 255,
+];
+/// A keygroup's bytes 35 to 58, and the same for samples 2 to 4. The rest of a keygroup is zeros.
+const SAMPLE: [u8; 24] =
+    [10, 10, 10, 10, 10, 10, 10, 10, 10, 10, 10, 10, 0, 127, 0, 0, 0, 0, 0, 0, 255, 255, 44, 1];
+
+/// A program of one keygroup with the published default values of every row.
+pub fn default_program() -> Vec<u8> {
+    let mut file = HEADER.to_vec();
+    file.resize(PART, 0);
+    file.extend(KEYGROUP);
+    (0..4).for_each(|_| file.extend(SAMPLE));
+    file.resize(2 * PART, 0);
+    file
+}

@@ -6,7 +6,7 @@
 //!
 //! [`calls`] has the disk calls, [`samples`] and [`program`] the files, [`script`] whole scripts of calls, [`record`] the plain record of files
 //! that a sequence of calls must behave as, and [`maker`], [`faults`] and [`files`] make disks and
-//! files for tests.
+//! files for tests. [`tour`] is a disk to try the command on.
 #![forbid(unsafe_code)]
 
 pub mod calls;
@@ -21,6 +21,7 @@ pub mod random;
 pub mod record;
 pub mod samples;
 pub mod script;
+pub mod tour;
 
 /// A refusal: document 01's number and place.
 #[derive(Clone, Copy, Debug, PartialEq, Eq)]
