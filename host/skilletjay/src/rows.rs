@@ -134,18 +134,19 @@ impl Row {
     fn words(&self, file: &[u8]) -> Option<String> {
         let (name, value) = (&self.name, self.fault(file)?);
         let legal = self.legal.in_file(file);
+        let odd = self.legal == Legal::Fitting(Form::Sample(Kind::S900)) && value % 2 == 1;
         let value = match u8::try_from(value) {
             Ok(letter) if legal.is_letters() && letter.is_ascii_graphic() => char::from(letter).to_string(),
             _ => value.to_string(),
         };
-        Some(match (self.legal, legal) {
-            (Legal::Fitting(_), Legal::Fitting(_)) => {
-                format!("{name} is {value}, and none fits a file of {} bytes", file.len())
-            }
-            (Legal::Fitting(_), fits) => {
-                format!("{name} is {value}, but {fits} in a file of {} bytes", file.len())
-            }
-            _ => format!("{name} is {value}, not {legal}"),
+        let Legal::Fitting(form) = self.legal else {
+            return Some(format!("{name} is {value}, not {legal}"));
+        };
+        let counted = if form == Form::Program { "keygroups" } else { "words" };
+        Some(match legal {
+            _ if odd => format!("{value} {counted} said, and their number is even"),
+            Legal::Fitting(_) => format!("{value} {counted} said, {} there", bytes(file.len())),
+            fits => format!("{value} {counted} said, {fits} there"),
         })
     }
 }
@@ -158,9 +159,14 @@ pub fn words(form: Form, file: &[u8], offset: usize) -> Option<String> {
         Form::Program => ("a program's header", PART),
     };
     if file.len() < header {
-        return Some(format!("it has {} bytes, and {what} {header}", file.len()));
+        return Some(format!("it has {}, and {what} {header}", bytes(file.len())));
     }
     row(form, offset)?.words(file)
+}
+
+/// A number of bytes, one or many.
+fn bytes(number: usize) -> String {
+    format!("{number} byte{}", if number == 1 { "" } else { "s" })
 }
 
 /// The row that an offset lies in, if it has a rule.
@@ -261,13 +267,17 @@ mod tests {
         (file[42], file[17]) = (3, 17);
         let told = |file: &[u8], offset| words(Form::Program, file, offset).unwrap_or_default();
         assert_eq!(told(&file, 17), "polyphony is 17, not 1 to 16");
-        assert_eq!(told(&file, 42), "number of keygroups is 3, but 2 in a file of 450 bytes");
-        assert_eq!(told(&file[..449], 42), "number of keygroups is 3, and none fits a file of 449 bytes");
+        assert_eq!(told(&file, 42), "3 keygroups said, 2 there");
+        assert_eq!(told(&file[..449], 42), "3 keygroups said, 449 bytes there");
         assert_eq!(told(&file[..149], 0), "it has 149 bytes, and a program's header 150");
         assert_eq!(told(&file, 301), "keygroup 2's next keygroup address is 0, not 450");
         file[300 + 142] = 255;
         file[300 + 143] = 128;
         assert_eq!(told(&file, 440), "keygroup 2's vel>sample start is -32513, not -9999 to 9999");
         assert_eq!(words(Form::Program, &file, 16), None);
+        let mut odd = [0; 64];
+        odd[16] = 3;
+        let told = words(Form::Sample(Kind::S900), &odd, 16);
+        assert_eq!(told.as_deref(), Some("3 words said, and their number is even"));
     }
 }
