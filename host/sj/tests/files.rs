@@ -135,7 +135,7 @@ fn other_samples_are_refused() {
     let odd = ["odd.wav: it has 3 words", "an even number", "refusal 18, offset 16"];
     folder.sj(&["pack", "odd.wav", "--like", "s900", "--clip-loops", "-o", "b"]).failed(1, &odd);
     folder.write("bad", b"RIFF");
-    let short = "S900 sample (first byte not 3): it has 4 bytes, and an S900 sample's header 60";
+    let short = "as S900 (first byte not 3): it has 4 bytes, and an S900 sample's header 60";
     folder.sj(&["pack", "fine.wav", "--like", "bad", "-o", "b"]).failed(1, &["sj: bad: ", short]);
     folder.sj(&["unpack", "s900"]).failed(2, &["-o is needed"]);
     folder.sj(&["unpack", "none", "-o", "b.wav"]).failed(2, &["none"]);
@@ -159,14 +159,14 @@ fn a_refused_header_is_told_by_its_row() {
         assert!(ran.err.lines().count() == 1 && ran.err.len() <= 101, "{}", ran.err);
         ran.failed(1, &["sj: a: ", words]);
     };
-    let s900_is = "S900 sample (first byte not 3): ";
+    let s900_is = "as S900 (first byte not 3): ";
     told(&s900, 26, b'X', &format!("{s900_is}loop mode is X, not O, L or A (refusal 18, offset 26)"));
     told(&s900, 26, 7, &format!("{s900_is}loop mode is 7, not O, L or A"));
     told(&s900, 2, 200, &format!("{s900_is}name character 3 is 200, not 32 to 126 (refusal 18, offset 2)"));
     told(&s900, 13, 1, &format!("{s900_is}fixed byte 4 is 1, not 0 (refusal 18, offset 13)"));
     told(&s900, 16, 6, &format!("{s900_is}6 words said, 4 there (refusal 18, offset 16)"));
     told(&s900, 29, 1, &format!("{s900_is}end marker is 2"));
-    let s1000_is = "S1000 sample (first byte 3): ";
+    let s1000_is = "as S1000 (first byte 3): ";
     told(&s1000, 2, 128, &format!("{s1000_is}root note is 128, not 0 to 127 (refusal 18, offset 2)"));
     told(&s1000, 21, 205, &format!("{s1000_is}tune semitones is -51, not -50 to 50 (refusal 18, offset 21)"));
     told(&s1000, 16, 9, &format!("{s1000_is}number of loops is 9, not 0 to 8 (refusal 18, offset 16)"));

@@ -63,8 +63,7 @@ pub enum Legal {
 }
 
 impl Legal {
-    /// The same with the numbers that a file gives: no row of it refers to the file then, but for a length that no number
-    /// fits.
+    /// The same with the numbers that a file gives. A length that no number fits leaves it as it is.
     pub fn in_file(self, file: &[u8]) -> Legal {
         match self {
             Legal::UpTo(at) => Legal::From(0, number(file, at, 4)),

@@ -39,7 +39,7 @@ fn hold(form: Form, all: &[Row], file: &[u8], met: &mut BTreeSet<usize>) {
     let named =
         words.starts_with(&row.name) || words.contains(" said, ") && matches!(row.legal, Legal::Fitting(_));
     assert!(row.offset == place && named, "{words}");
-    assert!(words.len() <= 75, "{words} is long");
+    assert!(words.len() <= 64, "{words} is long"); // a line of 100 columns with file, number and offset
 }
 
 /// Every value of every byte of the headers, and some pairs of bytes; every row is met.

@@ -65,7 +65,7 @@ fn refused(about: &str, kind: Kind, file: &[u8], refusal: Refusal) -> Failure {
     };
     match rows::words(Form::Sample(kind), file, refusal.place()) {
         Some(words) if refusal.number() == 18 => {
-            Failure::refused_as(about, refusal, format!("{kind} sample ({why}): {words}"))
+            Failure::refused_as(about, refusal, format!("as {kind} ({why}): {words}"))
         }
         _ => Failure::refused(about, refusal),
     }

@@ -5,7 +5,7 @@ use super::{SHIFT, Sample, fields, read};
 use crate::arguments::{Arguments, text};
 use crate::commands::into;
 use crate::commands::put::refuse_empty;
-use crate::failure::{Failure, counting, named, shown};
+use crate::failure::{Failure, counting, named, plain};
 use crate::json::Object;
 use crate::select::bad_character;
 use crate::wav::Wav;
@@ -80,7 +80,7 @@ pub fn header_for(like: &Header, about: &str, wav: &Wav, asked: &Asked) -> Resul
     }
     if asked.clip {
         header.clip();
-    } else if let Some(past) = header.past(&shown(&asked.like), words != like.words()) {
+    } else if let Some(past) = header.past(&plain(&named(&asked.like)), words != like.words()) {
         let advice =
             "Give --clip-loops to move markers and loops back to the last word, or take a header that fits.";
         return Err(Failure::declined(about, format!("{past}; --clip-loops moves it back"), advice));

@@ -3,7 +3,7 @@
 use super::{SHIFT, Sample, fields, read};
 use crate::arguments::Arguments;
 use crate::commands::into::{self, Out};
-use crate::failure::{Failure, counting, named, shown};
+use crate::failure::{Failure, counting, named, plain};
 use crate::image_file::{self, Opened};
 use crate::json::Object;
 use crate::progress::Progress;
@@ -24,7 +24,7 @@ fn from_file(arguments: &mut Arguments) -> Result<(), Failure> {
     image_file::refuse_itself(&path, &to)?;
     let file = read(&path)?;
     if Image::new(&file[..]).check().is_ok() {
-        let words = format!("{} is an image; name its samples, or give --all", shown(&path));
+        let words = format!("{} is an image; name its samples, or give --all", plain(&named(&path)));
         return Err(Failure::usage(words));
     }
     let sample = Sample::of_bytes(&named(&path), &file)?;
