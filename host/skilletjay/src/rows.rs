@@ -106,8 +106,8 @@ impl fmt::Display for Legal {
             }
             Legal::OneOf([]) => write!(to, "none"),
             Legal::UpTo(at) => write!(to, "0 to the number at {at}"),
-            Legal::Fitting(Form::Program) => write!(to, "1 to 99 and the length's"),
-            Legal::Fitting(Form::Sample(_)) => write!(to, "the length's"),
+            Legal::Fitting(Form::Program) => write!(to, "1 to 99, as the file's length asks"),
+            Legal::Fitting(Form::Sample(_)) => write!(to, "as the file's length asks"),
         }
     }
 }

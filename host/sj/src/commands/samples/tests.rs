@@ -5,6 +5,7 @@ use super::pack::{Asked, header_for, words_for};
 use super::unpack::wav_of;
 use super::*;
 use crate::wav::Wav;
+use crate::wav::smpl::{Loop, Smpl};
 use model::files;
 use model::random::Random;
 
@@ -97,4 +98,72 @@ fn another_samples_note_and_loops_are_taken() {
         }
     }
     assert!(loops > 5_000, "{loops} loops");
+}
+
+/// A header that was clipped is legal, whatever the loops; one that wasn't is legal or refused in words.
+#[test]
+fn clipped_headers_are_legal() {
+    let (mut random, mut refused) = (Random::new(23), 0);
+    for turn in 0..20_000 {
+        let (kind, theirs) = KINDS[turn % 2];
+        let like = 2 * random.below(20);
+        let like = Sample::of_bytes("b", &sample_file(theirs, like, &mut random)).expect("legal").header;
+        let words = vec![16; 2 * random.below(20)];
+        let any = |random: &mut Random| random.pick(&[0, 1, 7, 39, u32::MAX - 1, u32::MAX]);
+        let loops = (0..random.below(if kind == Kind::S900 { 2 } else { 9 })).map(|_| Loop {
+            alternating: kind == Kind::S900 && random.one_in(2),
+            end: 1 + any(&mut random).min(u32::MAX - 1),
+            length: 1,
+            fraction: any(&mut random),
+            count: any(&mut random),
+        });
+        let mut loops: Vec<Loop> = loops.collect();
+        loops.iter_mut().for_each(|told| told.length = 1 + any(&mut random).min(told.end - 1));
+        let smpl = Smpl { note: random.below(128) as u8, fraction: any(&mut random), loops };
+        let wav = Wav { rate: 1 + any(&mut random).min(65_534), smpl: Some(smpl), words };
+        let back = Wav::of_bytes(&wav.to_bytes()).expect("a WAV file");
+        assert_eq!(back, wav);
+        let packs = |clip: bool| {
+            let header = header_for(&like, "a.wav", &wav, &Asked { clip, ..asked() })?;
+            let words = words_for(kind, "a.wav", &wav.words, false)?;
+            Ok::<Vec<u8>, Failure>(sample::file_of(kind, &header.bytes, &words).expect("legal"))
+        };
+        let clipped = packs(true).expect("clipped");
+        match packs(false) {
+            Ok(file) if kind == Kind::S900 => {
+                assert!(file == clipped, "turn {turn}: nothing was to be clipped")
+            }
+            Ok(_) => {}
+            Err(_) => refused += 1,
+        }
+    }
+    assert!((5_000..19_000).contains(&refused), "{refused} refused");
+}
+
+/// No bytes make it panic.
+#[test]
+fn damaged_wav_files_are_refused_or_read() {
+    let mut random = Random::new(24);
+    let file = sample_file(model::layout::Kind::S1000, 20, &mut random);
+    let like = Sample::of_bytes("a", &file).expect("legal").header;
+    let whole = wav_of("a", Sample::of_bytes("a", &file).expect("legal")).expect("a rate").to_bytes();
+    let mut read = 0;
+    for _ in 0..50_000 {
+        let mut wav = whole.clone();
+        for _ in 0..random.within(1, 3) {
+            let at = random.below(wav.len());
+            wav[at] = random.pick(&[0, 1, 2, 127, 128, 255]);
+        }
+        if random.one_in(4) {
+            wav.truncate(random.below(wav.len()));
+        }
+        if let Ok(wav) = Wav::of_bytes(&wav) {
+            read += 1;
+            let _ = header_for(&like, "a.wav", &wav, &asked()); // refused or not
+            let header = header_for(&like, "a.wav", &wav, &Asked { clip: true, ..asked() });
+            let header = header.map(|header| sample::file_of(like.kind, &header.bytes, &wav.words));
+            assert!(header.is_err() || header.is_ok_and(|packed| packed.is_ok()));
+        }
+    }
+    assert!(read > 1_000, "{read} read");
 }

@@ -22,18 +22,22 @@ fn from_file(arguments: &mut Arguments) -> Result<(), Failure> {
     let path = arguments.path("the sample file")?;
     let to = PathBuf::from(arguments.needed("-o")?);
     image_file::refuse_itself(&path, &to)?;
-    let file = read(&path)?;
-    if Image::new(&file[..]).check().is_ok() {
-        let words = format!("{} is an image; name its samples, or give --all", plain(&named(&path)));
-        return Err(Failure::usage(words));
-    }
-    let sample = Sample::of_bytes(&named(&path), &file)?;
+    let sample = sample_in(&path)?;
     let object = fields(Object::new().text("file", &named(&path)), &sample.header);
     into::write(&to, &wav_of(&named(&path), sample)?.to_bytes())?;
     if !manner.json || manner.quiet || to.as_os_str() == "-" {
         return Ok(()); // the caller knows where it is
     }
     output::say(&object.text("to", &to.display().to_string()).line())
+}
+
+/// The sample in a file; whoever gives an image is told what is missing.
+fn sample_in(path: &Path) -> Result<Sample, Failure> {
+    let (about, file) = (named(path), read(path)?);
+    Sample::of_bytes(&about, &file).map_err(|failure| match Image::new(&file[..]).check() {
+        Ok(_) => Failure::usage(format!("{} is an image; name its samples, or give --all", plain(&about))),
+        Err(_) => failure,
+    })
 }
 
 fn from_image(arguments: &mut Arguments) -> Result<(), Failure> {
