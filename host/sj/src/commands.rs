@@ -4,6 +4,7 @@ pub mod change;
 pub mod check;
 pub mod get;
 pub mod help;
+pub mod into;
 pub mod ls;
 pub mod many;
 pub mod program;

@@ -21,7 +21,8 @@
 //! ```
 //!
 //! A large file is best taken page by page, with [`Image::download`]; an image that is dear to fetch needn't be
-//! fetched whole, see [`Image::blocks`]. Sample and program files have their own modules, [`sample`] and [`program`].
+//! fetched whole, see [`Image::blocks`]. Sample and program files have their own modules, [`sample`] and [`program`], and
+//! [`rows`] says in words where one of them is refused.
 
 mod download;
 mod image;
@@ -30,6 +31,7 @@ mod lend_files;
 pub mod program;
 pub mod raw;
 mod refusal;
+pub mod rows;
 pub mod sample;
 
 pub use download::Download;

@@ -76,6 +76,10 @@ const NAME: Flag = Flag { name: "--name", value: Some("NAME"), about: "the name 
 const TYPE: Flag = Flag { name: "--type", value: Some("T"), about: "the type, a letter" };
 const REPLACE: Flag = Flag { name: "--replace", value: None, about: "take the place of a file of that name" };
 const EMPTY: Flag = Flag { name: "--allow-empty-name", value: None, about: "take a name of spaces alone" };
+const ALL_SAMPLES: Flag =
+    Flag { name: "--all", value: None, about: "every sample, into the folder that -o names" };
+const HEADER_NAME: Flag =
+    Flag { name: "--name", value: Some("NAME"), about: "the name in the sample's header" };
 const LIKE: Flag =
     Flag { name: "--like", value: Some("SAMPLE"), about: "the sample file whose header is taken" };
 const ROUND: Flag = Flag {
@@ -149,17 +153,24 @@ pub const COMMANDS: [Command; 11] = [
             "sj unpack IMAGE NAME|'#SLOT'.. [-o FILE.wav|DIR]",
             "sj unpack IMAGE --all -o DIR",
         ],
-        about: "Makes WAV files of samples, of sample files or straight from an image",
-        flags: &[&TO, &ALL, &FORCE_OUT],
-        notes: "",
+        about: "Makes WAV files of samples, of a sample file or straight from an image",
+        flags: &[&TO, &ALL_SAMPLES, &FORCE_OUT],
+        notes: "One argument is a sample file; more are an image and its samples, by name, '#slot' or pattern as for get. \
+                --all takes the files of type s on an S1000 disk, S on an S900's. Without -o a sample gets NAME.wav, and \
+                replaces nothing that is there but by --force. Of several samples one that is refused is told and passed \
+                over, and a closing line counts. Root note and loops go into a smpl chunk. The 12 bits of an S900 word \
+                are the upper of 16.",
         run: samples::unpack,
     },
     Command {
         name: "pack",
         usage: &["sj pack FILE.wav --like SAMPLE -o FILE [--name NAME] [--round] [--clip-loops]"],
         about: "Makes a sample file of a WAV file and another sample's header",
-        flags: &[&LIKE, &TO, &NAME, &EMPTY, &ROUND, &CLIP],
-        notes: "",
+        flags: &[&LIKE, &TO, &HEADER_NAME, &EMPTY, &ROUND, &CLIP],
+        notes: "The WAV file has one channel and 16 bits a word. Its rate is taken, its words, and the root note and loops of \
+                its smpl chunk if it has one; the rest is the other sample's. An end marker after the last word is there \
+                again; any other marker, or loop, that lies past the words is refused, or moved back by --clip-loops. \
+                No file that is read is replaced.",
         run: samples::pack,
     },
     Command {
@@ -167,7 +178,8 @@ pub const COMMANDS: [Command; 11] = [
         usage: &["sj program FILE.."],
         about: "Tells whether files are S1000 programs, and of how many keygroups",
         flags: &[],
-        notes: "",
+        notes: "A refused file is told with the row at fault, its value and what it may be. Of many files the closing line \
+                counts the accepted and the refused, these by their numbers.",
         run: program::run,
     },
     Command {
