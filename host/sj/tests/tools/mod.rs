@@ -1,0 +1,137 @@
+//! Other users, other programs, and a folder where all of them can work.
+#![allow(dead_code, missing_docs)] // each test takes what it needs
+
+use crate::common::{Folder, Ran};
+use std::fs::{self, Permissions};
+use std::os::unix::fs::{MetadataExt, PermissionsExt};
+use std::path::{Path, PathBuf};
+use std::process::Command;
+use std::sync::OnceLock;
+
+/// The user and group of most files here; neither need have a name.
+pub const OWNER: u32 = 1000;
+
+/// Whoever is neither root nor the owner.
+pub const NOBODY: u32 = 65_534;
+
+/// A folder of files, all of which anybody may replace, on a file system with attributes and ACLs. It goes when it is
+/// dropped.
+pub struct Open(pub Folder);
+
+impl Open {
+    pub fn new(name: &str) -> Open {
+        let places = [std::env::temp_dir(), "/var/tmp".into(), "/dev/shm".into()];
+        let name = format!("sj-{name}-{}", std::process::id());
+        let made =
+            places.into_iter().map(|place| made(place.join(&name))).find(|folder| keeps_all(&folder.0.0));
+        made.expect("a folder for temporary files that keeps attributes and ACLs")
+    }
+
+    pub fn path(&self, name: &str) -> PathBuf {
+        self.0.0.join(name)
+    }
+
+    /// Writes a file with an owner, who is its group too, and a mode.
+    pub fn give(&self, name: &str, bytes: &[u8], owner: u32, mode: u32) {
+        self.0.write(name, bytes);
+        std::os::unix::fs::chown(self.path(name), Some(owner), Some(owner)).expect("root");
+        fs::set_permissions(self.path(name), Permissions::from_mode(mode)).expect("mode");
+    }
+
+    /// Owner, group and mode of a file.
+    pub fn rights(&self, name: &str) -> (u32, u32, u32) {
+        let about = fs::symlink_metadata(self.path(name)).expect("there");
+        (about.uid(), about.gid(), about.mode() & 0o7777)
+    }
+
+    /// The entries of a file's ACL; for a file without one, those of its mode.
+    pub fn acl(&self, name: &str) -> Vec<String> {
+        let text = self.run("getfacl", &["--omit-header", "--numeric", "--no-effective", name]);
+        text.lines().filter(|line| !line.is_empty()).map(str::to_string).collect()
+    }
+
+    /// A program's output.
+    pub fn run(&self, program: &str, words: &[&str]) -> String {
+        let output = Command::new(program).args(words).current_dir(&self.0.0).output();
+        let output = output.unwrap_or_else(|error| panic!("{program} is needed: {error}"));
+        assert!(output.status.success(), "{program} {words:?}: {}", String::from_utf8_lossy(&output.stderr));
+        String::from_utf8(output.stdout).expect("text")
+    }
+
+    /// The command run by nobody, whose groups are these.
+    pub fn by_nobody(&self, groups: &str, words: &[&str]) -> Ran {
+        let mut command = Command::new("setpriv");
+        command.args(["--reuid=65534", "--regid=65534", &format!("--groups={groups}")]);
+        command.arg(for_all()).args(words).current_dir(&self.0.0);
+        Ran::of(command.output().expect("setpriv (util-linux) is needed"))
+    }
+}
+
+impl Drop for Open {
+    fn drop(&mut self) {
+        let _ = fs::remove_dir_all(&self.0.0); // it is for temporary files
+    }
+}
+
+fn made(path: PathBuf) -> Open {
+    fs::create_dir(&path).expect("a folder");
+    fs::set_permissions(&path, Permissions::from_mode(0o777)).expect("mode");
+    Open(Folder(path))
+}
+
+/// Whether attributes and ACLs can be set in a folder.
+fn keeps_all(folder: &Path) -> bool {
+    let works = |program: &str, words: &[&str]| {
+        let output = Command::new(program).args(words).arg(folder.join("probe")).output();
+        output.unwrap_or_else(|error| panic!("{program} is needed: {error}")).status.success()
+    };
+    fs::write(folder.join("probe"), b"").expect("written");
+    let both = works("setfattr", &["-n", "user.a", "-v", "1"]) && works("setfacl", &["-m", "u:65534:r"]);
+    fs::remove_file(folder.join("probe")).expect("removed");
+    both
+}
+
+/// The command where everybody can run it: a build folder may be below somebody's home.
+fn for_all() -> &'static Path {
+    static COPY: OnceLock<PathBuf> = OnceLock::new();
+    COPY.get_or_init(|| {
+        let runs = |path: &Path| {
+            let mut nobody = Command::new("setpriv");
+            nobody.args(["--reuid=65534", "--clear-groups"]).arg(path).arg("--version");
+            nobody.output().expect("setpriv (util-linux) is needed").status.success()
+        };
+        let here = PathBuf::from(env!("CARGO_BIN_EXE_sj"));
+        if runs(&here) {
+            return here;
+        }
+        let copy = |place: PathBuf| {
+            let path = place.join(format!("sj-for-all-{}", std::process::id()));
+            fs::copy(env!("CARGO_BIN_EXE_sj"), &path).expect("copied");
+            path
+        };
+        let mut copies = [std::env::temp_dir(), "/var/tmp".into()].into_iter().map(copy);
+        copies.find(|path| runs(path)).expect("a place where nobody can run a program")
+    })
+}
+
+/// Only root can be several users; the gate is run by root.
+pub fn is_root() -> bool {
+    let root = fs::metadata("/proc/self").expect("/proc").uid() == 0;
+    if !root {
+        println!("skipped: only root can be several users");
+    }
+    root
+}
+
+/// A run in which a system call fails, and whether that call was made.
+pub fn injected(folder: &Folder, inject: &str, words: &[&str]) -> (Ran, bool) {
+    let call = inject.split(':').next().unwrap_or_default();
+    let trace = folder.0.with_extension("trace");
+    let mut command = Command::new("strace");
+    command.arg("-o").arg(&trace).args(["-e", &format!("trace={call}"), "-e", &format!("inject={inject}")]);
+    command.arg(env!("CARGO_BIN_EXE_sj")).args(words).current_dir(&folder.0);
+    let ran = Ran::of(command.output().expect("strace is needed"));
+    let told = fs::read_to_string(&trace).expect("a trace: strace must be allowed to trace");
+    fs::remove_file(&trace).expect("removed");
+    (ran, told.contains("INJECTED"))
+}
