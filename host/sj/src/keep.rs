@@ -46,22 +46,32 @@ pub struct Lost {
     attributes: Vec<CString>,
 }
 
-/// Gives a new file, which nobody else may open so far, what an old one has. What is lost is left out.
+/// Gives a new file, which nobody else may open so far, what an old one has. What is lost is left out. The mode is the
+/// new file's from then on.
 pub fn take_over(new: &File, old: &Old) -> io::Result<(u32, Lost)> {
     let mut lost = owners(new, &old.about)?;
-    let names = old.file.as_ref().map_or(Ok(Vec::new()), attributes::names)?;
-    let (acls, others): (Vec<CString>, Vec<CString>) =
-        names.into_iter().partition(|name| name.to_bytes().starts_with(b"system."));
-    let copied = |name: &CString| old.file.as_ref().is_some_and(|file| copy(new, file, name));
-    lost.attributes = others.into_iter().filter(|name| !copied(name)).collect();
-    attributes::remove(new, ACL)?; // what the folder may have given it
-    // An ACL tells the rights of the owning group too, and with another group they would be that one's.
-    lost.acl = old.file.is_none() || !acls.iter().all(|name| !lost.group && copied(name));
+    match old.file.as_ref().and_then(|file| Some((file, attributes::names(file).ok()?))) {
+        Some((file, names)) => copy_all(new, file, names, &mut lost)?,
+        None => lost.acl = true,
+    }
     let mode = cut(old.about.mode(), &lost);
     if new.metadata()?.mode() & 0o7777 != mode {
         new.set_permissions(Permissions::from_mode(mode))?;
     }
     Ok((mode, lost))
+}
+
+/// Copies ACL and attributes.
+fn copy_all(new: &File, old: &File, names: Vec<CString>, lost: &mut Lost) -> io::Result<()> {
+    let is_acl = |name: &CString| name.to_bytes().starts_with(b"system.");
+    let (acls, others): (Vec<CString>, Vec<CString>) = names.into_iter().partition(is_acl);
+    lost.attributes = others.into_iter().filter(|name| !copy(new, old, name)).collect();
+    if let Ok(Some(_)) = attributes::get(new, ACL) {
+        attributes::remove(new, ACL)?; // the folder's gift, which a mode for the group would make good
+    }
+    // An ACL tells the rights of the owning group too, and with another group they would be that one's.
+    lost.acl = !acls.iter().all(|name| !lost.group && copy(new, old, name));
+    Ok(())
 }
 
 /// Sets group and owner, each by itself: who may not give a file away may be in its group.

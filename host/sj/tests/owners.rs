@@ -5,7 +5,7 @@ mod tools;
 
 use model::calls;
 use std::fs;
-use tools::{NOBODY, OWNER, Open, injected, is_root};
+use tools::{NOBODY, OWNER, Open, can_be_others, injected};
 
 const PUT: [&str; 7] = ["put", "a.img", "one", "--name", "A", "--type", "S"];
 
@@ -37,29 +37,31 @@ fn forced(words: &[&'static str]) -> Vec<&'static str> {
 }
 
 #[test]
-fn root_keeps_owner_group_and_mode() {
-    if !is_root() {
+fn root_and_the_owner_keep_owner_group_and_mode() {
+    if !can_be_others() {
         return;
     }
     for mode in [0o600, 0o640, 0o664, 0o2660, 0o2771, 0o6755] {
         let folder = image("kept", mode);
         folder.0.sj(&PUT).done();
         assert_eq!(folder.rights("a.img"), (OWNER, OWNER, mode), "{mode:o}");
-        assert!(holds(&folder, "A"));
+        folder.by(OWNER, "1000", &["mv", "a.img", "A", "B"]).done();
+        assert_eq!(folder.rights("a.img"), (OWNER, OWNER, mode), "{mode:o}");
+        assert!(holds(&folder, "B"));
     }
 }
 
 /// A member of the group who isn't the owner: the group stays, by its own call.
 #[test]
 fn the_owner_alone_cant_be_kept() {
-    if !is_root() {
+    if !can_be_others() {
         return;
     }
     for (mode, left) in [(0o660, 0o660), (0o664, 0o664), (0o6770, 0o770), (0o466, 0o444), (0o067, 0)] {
         let folder = image("group", mode);
-        folder.by_nobody("1000", &PUT).failed(2, &["a.img: its owner can't be kept; --force changes it"]);
+        folder.by(NOBODY, "1000", &PUT).failed(2, &["a.img: its owner can't be kept; --force changes it"]);
         assert!(untouched(&folder) && folder.rights("a.img") == (OWNER, OWNER, mode), "{mode:o}");
-        folder.by_nobody("1000", &forced(&PUT)).done();
+        folder.by(NOBODY, "1000", &forced(&PUT)).done();
         assert_eq!(folder.rights("a.img"), (NOBODY, OWNER, left), "{mode:o}");
         assert!(holds(&folder, "A"));
     }
@@ -68,14 +70,14 @@ fn the_owner_alone_cant_be_kept() {
 /// Whoever was in the group is among the others now, and the new group was among them.
 #[test]
 fn neither_owner_nor_group_can_be_kept() {
-    if !is_root() {
+    if !can_be_others() {
         return;
     }
     for (mode, left) in [(0o666, 0o666), (0o646, 0o644), (0o676, 0o666), (0o606, 0o600), (0o6777, 0o777)] {
         let folder = image("others", mode);
-        folder.by_nobody("65534", &PUT).failed(2, &["its owner and its group can't be kept"]);
+        folder.by(NOBODY, "65534", &PUT).failed(2, &["its owner and its group can't be kept"]);
         assert!(untouched(&folder) && folder.rights("a.img") == (OWNER, OWNER, mode), "{mode:o}");
-        folder.by_nobody("65534", &forced(&PUT)).done();
+        folder.by(NOBODY, "65534", &forced(&PUT)).done();
         assert_eq!(folder.rights("a.img"), (NOBODY, NOBODY, left), "{mode:o}");
         assert!(holds(&folder, "A"));
     }
@@ -83,7 +85,7 @@ fn neither_owner_nor_group_can_be_kept() {
 
 #[test]
 fn an_acl_is_kept_or_nobody_but_the_owner_has_access() {
-    if !is_root() {
+    if !can_be_others() {
         return;
     }
     let folder = image("acl", 0o640);
@@ -93,13 +95,13 @@ fn an_acl_is_kept_or_nobody_but_the_owner_has_access() {
     folder.0.sj(&PUT).done();
     assert_eq!((folder.rights("a.img"), folder.acl("a.img")), ((OWNER, OWNER, 0o664), acl.clone()));
     let remove = ["rm", "a.img", "A"];
-    folder.by_nobody("65534", &remove).failed(2, &["its owner, its group and its ACL can't be kept"]);
-    folder.by_nobody("1000", &remove).failed(2, &["a.img: its owner can't be kept"]);
+    folder.by(NOBODY, "65534", &remove).failed(2, &["its owner, its group and its ACL can't be kept"]);
+    folder.by(NOBODY, "1000", &remove).failed(2, &["a.img: its owner can't be kept"]);
     assert!(holds(&folder, "A") && alone(&folder));
-    folder.by_nobody("1000", &forced(&remove)).done();
+    folder.by(NOBODY, "1000", &forced(&remove)).done();
     assert_eq!((folder.rights("a.img"), folder.acl("a.img")), ((NOBODY, OWNER, 0o664), acl));
     folder.run("chown", &["1000:1000", "a.img"]);
-    folder.by_nobody("65534", &forced(&PUT)).done();
+    folder.by(NOBODY, "65534", &forced(&PUT)).done();
     assert_eq!(folder.rights("a.img"), (NOBODY, NOBODY, 0o600));
     assert_eq!(folder.acl("a.img"), ["user::rw-", "group::---", "other::---"]);
 }
@@ -166,7 +168,7 @@ fn what_cant_be_set_is_named() {
 /// A file that an output replaces is no more open than it was.
 #[test]
 fn an_output_keeps_what_was_there() {
-    if !is_root() {
+    if !can_be_others() {
         return;
     }
     let folder = image("output", 0o644);
@@ -178,7 +180,7 @@ fn an_output_keeps_what_was_there() {
         assert_eq!((folder.rights("out"), folder.0.read("out")), ((OWNER, OWNER, mode), b"1".to_vec()));
         let attribute = ["--only-values", "-n", "user.comment", "out"];
         assert_eq!(folder.run("getfattr", &attribute), "bass");
-        folder.by_nobody("65534", &["get", "a.img", "A", "-o", "out"]).done();
+        folder.by(NOBODY, "65534", &["get", "a.img", "A", "-o", "out"]).done();
         assert_eq!(folder.rights("out"), (NOBODY, NOBODY, left), "{mode:o}");
         fs::remove_file(folder.path("out")).expect("removed");
     }

@@ -21,9 +21,11 @@ unsafe extern "C" {
 /// Linux gives no longer value and no longer list of names.
 const MOST: usize = 65_536;
 
-/// Both mean that a file has no such thing: the first that this one hasn't, the second that none here has.
+/// All mean that a file has no such thing: this one, all in this file system, and all that this Linux keeps.
+const NOTHING: [i32; 3] = [ENODATA, EOPNOTSUPP, ENOSYS];
 const ENODATA: i32 = 61;
 const EOPNOTSUPP: i32 = 95;
+const ENOSYS: i32 = 38;
 
 /// The names of a file's attributes; none where the file system has no attributes.
 pub fn names(file: &File) -> io::Result<Vec<CString>> {
@@ -70,7 +72,7 @@ pub fn remove(file: &File, name: &CStr) -> io::Result<()> {
 fn known(given: isize) -> io::Result<Option<usize>> {
     match (usize::try_from(given), io::Error::last_os_error()) {
         (Ok(number), _) => Ok(Some(number)),
-        (Err(_), error) if matches!(error.raw_os_error(), Some(ENODATA | EOPNOTSUPP)) => Ok(None),
+        (Err(_), error) if error.raw_os_error().is_some_and(|number| NOTHING.contains(&number)) => Ok(None),
         (Err(_), error) => Err(error),
     }
 }

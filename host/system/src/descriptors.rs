@@ -16,10 +16,10 @@ unsafe extern "C" {
 const F_GETFL: c_int = 3;
 const F_DUPFD_CLOEXEC: c_int = 1030;
 
-/// The bits of the flags that tell what a descriptor is open for.
+/// The bits of the flags that tell what a descriptor is open for, and two of their values.
 const ACCESS: i32 = 3;
-const READING: i32 = 0;
-const WRITING: i32 = 1;
+const READING_ONLY: i32 = 0;
+const WRITING_ONLY: i32 = 1;
 
 /// The flags of descriptors 0 to 2 at the start; -1 for one that was closed.
 static AT_START: [AtomicI32; 3] = [const { AtomicI32::new(-1) }; 3];
@@ -36,15 +36,16 @@ extern "C" fn record() {
     }
 }
 
-/// Whether a descriptor was given, and for reading or for writing; of one above 2 that shows when it is used.
-fn given(descriptor: c_int, other: i32) -> io::Result<()> {
+/// Whether a descriptor was given, and for more than is of no use here. What is wrong with one above 2 shows when it is
+/// used.
+fn given(descriptor: c_int, useless: i32) -> io::Result<()> {
     let flags = usize::try_from(descriptor).ok().and_then(|at| AT_START.get(at));
     match flags.map(|flags| flags.load(Relaxed)) {
         Some(-1) => Err(io::Error::other("it is closed")),
-        Some(flags) if flags & ACCESS == other => {
-            let what = if other == READING { "writing" } else { "reading" };
-            Err(io::Error::other(format!("it isn't open for {what}")))
-        }
+        Some(flags) if flags & ACCESS == useless => Err(io::Error::other(match useless {
+            READING_ONLY => "it isn't open for writing",
+            _ => "it isn't open for reading",
+        })),
         _ => Ok(()),
     }
 }
@@ -52,7 +53,7 @@ fn given(descriptor: c_int, other: i32) -> io::Result<()> {
 /// Standard input; an error where it was closed or can't be read.
 pub fn input() -> io::Result<&'static File> {
     static INPUT: OnceLock<File> = OnceLock::new();
-    given(0, WRITING)?;
+    given(0, WRITING_ONLY)?;
     // SAFETY: descriptor 0 is open, and is never closed: what is in a static is not dropped.
     Ok(INPUT.get_or_init(|| unsafe { File::from_raw_fd(0) }))
 }
@@ -61,14 +62,14 @@ pub fn input() -> io::Result<&'static File> {
 /// written.
 pub fn output() -> io::Result<&'static File> {
     static OUTPUT: OnceLock<File> = OnceLock::new();
-    given(1, READING)?;
+    given(1, READING_ONLY)?;
     // SAFETY: descriptor 1 is open, and is never closed: what is in a static is not dropped.
     Ok(OUTPUT.get_or_init(|| unsafe { File::from_raw_fd(1) }))
 }
 
 /// A descriptor of this process, to be written where it stands: neither emptied nor from its start.
 pub fn duplicate(descriptor: i32) -> io::Result<File> {
-    given(descriptor, READING)?;
+    given(descriptor, READING_ONLY)?;
     // SAFETY: any number may be asked for; no memory is touched.
     let own = unsafe { fcntl(descriptor, F_DUPFD_CLOEXEC, 3) };
     if own < 0 {

@@ -6,7 +6,6 @@ use std::fs::{self, Permissions};
 use std::os::unix::fs::{MetadataExt, PermissionsExt};
 use std::path::{Path, PathBuf};
 use std::process::Command;
-use std::sync::OnceLock;
 
 /// The user and group of most files here; neither need have a name.
 pub const OWNER: u32 = 1000;
@@ -15,20 +14,32 @@ pub const OWNER: u32 = 1000;
 pub const NOBODY: u32 = 65_534;
 
 /// A folder of files, all of which anybody may replace, on a file system with attributes and ACLs. It goes when it is
-/// dropped.
+/// dropped, with the command beside it: a build folder may be below somebody's home.
 pub struct Open(pub Folder);
 
 impl Open {
     pub fn new(name: &str) -> Open {
         let places = [std::env::temp_dir(), "/var/tmp".into(), "/dev/shm".into()];
         let name = format!("sj-{name}-{}", std::process::id());
-        let made =
-            places.into_iter().map(|place| made(place.join(&name))).find(|folder| keeps_all(&folder.0.0));
-        made.expect("a folder for temporary files that keeps attributes and ACLs")
+        let mut made = places.into_iter().map(|place| made(&place.join(&name)));
+        made.find(Open::keeps_all)
+            .expect("a place that keeps attributes and ACLs, for files and for programs")
     }
 
     pub fn path(&self, name: &str) -> PathBuf {
         self.0.0.join(name)
+    }
+
+    /// Whether attributes and ACLs can be set, and by root whether everybody can run the command.
+    fn keeps_all(&self) -> bool {
+        let works = |program: &str, words: &[&str]| {
+            let output = Command::new(program).args(words).arg("probe").current_dir(&self.0.0).output();
+            output.unwrap_or_else(|error| panic!("{program} is needed: {error}")).status.success()
+        };
+        self.0.write("probe", b"");
+        let both = works("setfattr", &["-n", "user.a", "-v", "1"]) && works("setfacl", &["-m", "u:65534:r"]);
+        fs::remove_file(self.path("probe")).expect("removed");
+        both && (!is_root() || self.by(NOBODY, "65534", &["--version"]).status == Some(0))
     }
 
     /// Writes a file with an owner, who is its group too, and a mode.
@@ -58,69 +69,41 @@ impl Open {
         String::from_utf8(output.stdout).expect("text")
     }
 
-    /// The command run by nobody, whose groups are these.
-    pub fn by_nobody(&self, groups: &str, words: &[&str]) -> Ran {
+    /// The command run by a user with a group of the same number, who is in these groups.
+    pub fn by(&self, user: u32, groups: &str, words: &[&str]) -> Ran {
         let mut command = Command::new("setpriv");
-        command.args(["--reuid=65534", "--regid=65534", &format!("--groups={groups}")]);
-        command.arg(for_all()).args(words).current_dir(&self.0.0);
+        let ids = [format!("--reuid={user}"), format!("--regid={user}"), format!("--groups={groups}")];
+        command.args(ids).arg("../sj").args(words).current_dir(&self.0.0);
         Ran::of(command.output().expect("setpriv (util-linux) is needed"))
     }
 }
 
 impl Drop for Open {
     fn drop(&mut self) {
-        let _ = fs::remove_dir_all(&self.0.0); // it is for temporary files
+        let _ = fs::remove_dir_all(self.0.0.parent().expect("a folder")); // it is for temporary files
     }
 }
 
-fn made(path: PathBuf) -> Open {
-    fs::create_dir(&path).expect("a folder");
-    fs::set_permissions(&path, Permissions::from_mode(0o777)).expect("mode");
-    Open(Folder(path))
+fn made(path: &Path) -> Open {
+    let folder = path.join("files");
+    let _ = fs::remove_dir_all(path); // of an interrupted test
+    fs::create_dir_all(&folder).expect("a folder");
+    fs::set_permissions(path, Permissions::from_mode(0o755)).expect("mode");
+    fs::set_permissions(&folder, Permissions::from_mode(0o777)).expect("mode");
+    fs::copy(env!("CARGO_BIN_EXE_sj"), path.join("sj")).expect("copied");
+    Open(Folder(folder))
 }
 
-/// Whether attributes and ACLs can be set in a folder.
-fn keeps_all(folder: &Path) -> bool {
-    let works = |program: &str, words: &[&str]| {
-        let output = Command::new(program).args(words).arg(folder.join("probe")).output();
-        output.unwrap_or_else(|error| panic!("{program} is needed: {error}")).status.success()
-    };
-    fs::write(folder.join("probe"), b"").expect("written");
-    let both = works("setfattr", &["-n", "user.a", "-v", "1"]) && works("setfacl", &["-m", "u:65534:r"]);
-    fs::remove_file(folder.join("probe")).expect("removed");
-    both
+fn is_root() -> bool {
+    fs::metadata("/proc/self").expect("/proc").uid() == 0
 }
 
-/// The command where everybody can run it: a build folder may be below somebody's home.
-fn for_all() -> &'static Path {
-    static COPY: OnceLock<PathBuf> = OnceLock::new();
-    COPY.get_or_init(|| {
-        let runs = |path: &Path| {
-            let mut nobody = Command::new("setpriv");
-            nobody.args(["--reuid=65534", "--clear-groups"]).arg(path).arg("--version");
-            nobody.output().expect("setpriv (util-linux) is needed").status.success()
-        };
-        let here = PathBuf::from(env!("CARGO_BIN_EXE_sj"));
-        if runs(&here) {
-            return here;
-        }
-        let copy = |place: PathBuf| {
-            let path = place.join(format!("sj-for-all-{}", std::process::id()));
-            fs::copy(env!("CARGO_BIN_EXE_sj"), &path).expect("copied");
-            path
-        };
-        let mut copies = [std::env::temp_dir(), "/var/tmp".into()].into_iter().map(copy);
-        copies.find(|path| runs(path)).expect("a place where nobody can run a program")
-    })
-}
-
-/// Only root can be several users; the gate is run by root.
-pub fn is_root() -> bool {
-    let root = fs::metadata("/proc/self").expect("/proc").uid() == 0;
-    if !root {
+/// Only root can be several users, as the gate is.
+pub fn can_be_others() -> bool {
+    if !is_root() {
         println!("skipped: only root can be several users");
     }
-    root
+    is_root()
 }
 
 /// A run in which a system call fails, and whether that call was made.
