@@ -10,7 +10,7 @@ use model::layout::Kind;
 use model::random::Random;
 use std::fs;
 use std::process::Command;
-use tools::injected;
+use tools::{injected, shell};
 
 /// A folder with an image, a sample and a program.
 fn folder(name: &str) -> Folder {
@@ -22,12 +22,6 @@ fn folder(name: &str) -> Folder {
     folder.write("one", b"1");
     folder.write("sample", &files::sample(Kind::S1000, 10, &mut Random::new(1)));
     folder
-}
-
-/// A line of the shell's, in which `sj` is the command.
-fn shell(folder: &Folder, line: &str) -> Ran {
-    let line = line.replace("sj ", &format!("'{}' ", env!("CARGO_BIN_EXE_sj")));
-    Ran::of(Command::new("sh").args(["-c", &line]).current_dir(&folder.0).output().expect("sh runs"))
 }
 
 /// Commands that answer on standard output.

@@ -35,7 +35,7 @@ fn a_run_gives_up_after_its_time() {
         let ran = folder.sj(&["put", "a.img", "one", "--name", "A", "--type", "S", "--timeout", time]);
         ran.failed(2, &[words]);
         let waited = start.elapsed().as_millis();
-        assert!(waited >= least && waited < least + 900, "{time}: {waited} ms");
+        assert!(waited >= least && waited < least + 10_000, "{time}: {waited} ms");
     }
     folder.sj(&["rm", "a.img", "A", "--timeout", "0"]).failed(2, &["gave up at once"]);
     assert!(folder.read("a.img").iter().all(|&byte| byte == 0));

@@ -1,13 +1,15 @@
 //! Where files go: through links, to devices, pipes and descriptors, and to names of any length.
 
 mod common;
+mod tools;
 
-use common::{Folder, Ran};
+use common::Folder;
 use model::calls;
 use std::fs::{self, File};
 use std::os::unix::fs::{FileTypeExt, MetadataExt, symlink};
 use std::os::unix::net::UnixListener;
 use std::process::Command;
+use tools::shell;
 
 /// A folder with an image, which holds a file of one byte and a long one.
 fn folder(name: &str) -> Folder {
@@ -17,12 +19,6 @@ fn folder(name: &str) -> Folder {
     calls::put(&mut image, b"LONG      ", b'S', &[7; 300_000]).expect("room");
     folder.write("a.img", &image);
     folder
-}
-
-/// A line of the shell's, in which `sj` is the command.
-fn shell(folder: &Folder, line: &str) -> Ran {
-    let line = line.replace("sj ", &format!("'{}' ", env!("CARGO_BIN_EXE_sj")));
-    Ran::of(Command::new("sh").args(["-c", &line]).current_dir(&folder.0).output().expect("sh runs"))
 }
 
 fn is_link(folder: &Folder, name: &str) -> bool {

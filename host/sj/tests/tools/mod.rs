@@ -118,3 +118,9 @@ pub fn injected(folder: &Folder, inject: &str, words: &[&str]) -> (Ran, bool) {
     fs::remove_file(&trace).expect("removed");
     (ran, told.contains("INJECTED"))
 }
+
+/// A line of the shell's, in which `sj` is the command.
+pub fn shell(folder: &Folder, line: &str) -> Ran {
+    let line = line.replace("sj ", &format!("'{}' ", env!("CARGO_BIN_EXE_sj")));
+    Ran::of(Command::new("sh").args(["-c", &line]).current_dir(&folder.0).output().expect("sh runs"))
+}
