@@ -61,8 +61,8 @@ impl Beside {
                 }
                 Err(error) if error.kind() == io::ErrorKind::AlreadyExists && turn < 100 => turn += 1,
                 Err(error) => {
-                    let words = format!("no file can be made in the folder {}: {error}", shown(folder));
-                    return Err(Failure::blocked(words));
+                    let words = format!("no file can be made beside it: {error}");
+                    return Err(Failure::file(path, io::Error::other(words)));
                 }
             }
         }

@@ -9,7 +9,7 @@ use crate::progress::Wait;
 use crate::target::Target;
 use skilletjay::{BLOCK, HEAD, Image, Slot};
 use std::fs::{self, File, Metadata, OpenOptions};
-use std::io::Read;
+use std::io::{self, Read};
 use std::os::unix::fs::{FileExt, FileTypeExt, MetadataExt};
 use std::path::{Path, PathBuf};
 use std::time::Duration;
@@ -138,7 +138,7 @@ pub fn change<T>(
 ) -> Result<T, Failure> {
     // Through links to the file itself, so that the rename replaces it and not a link.
     let Target::Plain(at) = Target::of(path)? else {
-        return Err(Failure::blocked(format!("{} is no plain file, and can't be changed", shown(path))));
+        return Err(Failure::file(path, io::Error::other("it is no plain file, and can't be changed")));
     };
     let file = lock(path, &at, how.timeout)?;
     let mut image = Image::new(read_open(&file, path, MOST)?);

@@ -66,8 +66,8 @@ fn copy_all(new: &File, old: &File, names: Vec<CString>, lost: &mut Lost) -> io:
     let is_acl = |name: &CString| name.to_bytes().starts_with(b"system.");
     let (acls, others): (Vec<CString>, Vec<CString>) = names.into_iter().partition(is_acl);
     lost.attributes = others.into_iter().filter(|name| !copy(new, old, name)).collect();
-    if let Ok(Some(_)) = attributes::get(new, ACL) {
-        attributes::remove(new, ACL)?; // the folder's gift, which a mode for the group would make good
+    if !matches!(attributes::get(new, ACL), Ok(None)) {
+        attributes::remove(new, ACL)?; // the folder's, which a mode for the group would bring into force
     }
     // An ACL tells the rights of the owning group too, and with another group they would be that one's.
     lost.acl = !acls.iter().all(|name| !lost.group && copy(new, old, name));

@@ -1,6 +1,6 @@
 //! Where `-o` leads: to a file that is replaced whole, or to something that can only be written to.
 
-use crate::failure::{Failure, shown};
+use crate::failure::Failure;
 use std::fs;
 use std::io::{self, ErrorKind};
 use std::path::{Path, PathBuf};
@@ -29,7 +29,7 @@ impl Target {
         let failed = |error| Failure::file(path, error);
         match fs::metadata(path) {
             Ok(about) if about.is_dir() => {
-                return Err(Failure::blocked(format!("{} is a folder, no plain file", shown(path))));
+                return Err(failed(io::Error::other("it is a folder, no plain file")));
             }
             Err(error) if error.kind() != ErrorKind::NotFound => return Err(failed(error)),
             _ => {}

@@ -202,3 +202,14 @@ fn a_close_that_fails_breaks_nothing() {
         }
     }
 }
+
+/// Some file systems tell only when a file is closed that they have no room for it.
+#[test]
+fn an_error_at_the_close_of_standard_output_is_seen() {
+    let folder = folder("close-output");
+    let at = |turn: usize| injected(&folder, &format!("close:error=ENOSPC:when={turn}"), &["check", "a.img"]);
+    let failed: Vec<_> = (1..).map(at).take_while(|(_, made)| *made).map(|(ran, _)| ran).collect();
+    let (last, others) = failed.split_last().expect("something is closed");
+    assert!(others.iter().all(|ran| ran.status == Some(0)), "{others:?}");
+    assert!(last.status == Some(2) && last.err.contains("standard output: No space left"), "{last:?}");
+}

@@ -9,7 +9,7 @@ use std::fs::{self, File};
 use std::os::unix::fs::{FileTypeExt, MetadataExt, symlink};
 use std::os::unix::net::UnixListener;
 use std::process::Command;
-use tools::shell;
+use tools::{injected, shell};
 
 /// A folder with an image, which holds a file of one byte and a long one.
 fn folder(name: &str) -> Folder {
@@ -111,11 +111,14 @@ fn a_folder_is_no_file() {
     fs::create_dir(folder.0.join("deep")).expect("a folder");
     symlink("deep", folder.0.join("link")).expect("a link");
     for name in ["deep", "link", ".", "deep/..", "/", "/dev"] {
-        folder.sj(&["get", "a.img", "A", "-o", name]).failed(2, &["is a folder, no plain file"]);
+        folder.sj(&["get", "a.img", "A", "-o", name]).failed(2, &[": it is a folder, no plain file"]);
     }
     folder.sj(&["get", "a.img", "A", "-o", ""]).failed(2, &["\"\""]);
     folder.write("one", b"1");
-    for (name, words) in [("deep", "is a folder"), ("/dev/null", "is no plain file, and can't be changed")] {
+    for (name, words) in [
+        ("deep", "deep: it is a folder"),
+        ("/dev/null", "/dev/null: it is no plain file, and can't be changed"),
+    ] {
         folder.sj(&["put", name, "one", "--name", "B", "--type", "S"]).failed(2, &[words]);
     }
     assert_eq!(folder.names(), ["a.img", "deep", "link", "one"]);
@@ -164,4 +167,31 @@ fn the_next_run_removes_what_an_interrupted_one_left() {
     folder.sj(&["put", "a.img", "one", "--name", "B", "--type", "S"]).done();
     let expected: Vec<String> = before.into_iter().filter(|name| !left.contains(name)).collect();
     assert_eq!((folder.names(), expected.len()), (expected.clone(), kept.len() + 4));
+}
+
+/// Whatever call of a change fails, wherever: the image is the old one or the new one, and stands alone.
+#[test]
+fn a_call_that_fails_leaves_a_whole_image() {
+    let folder = folder("calls");
+    folder.write("one", b"1");
+    let old = folder.read("a.img");
+    let mut new = old.clone();
+    calls::put(&mut new, b"B         ", b'S', b"1").expect("room");
+    let all =
+        "openat read write fsync rename fchmod fchown flock getdents64 statx flistxattr fgetxattr fsetxattr";
+    for call in all.split(' ') {
+        for turn in 1.. {
+            folder.write("a.img", &old);
+            let words = ["put", "a.img", "one", "--name", "B", "--type", "S"];
+            let (ran, made) = injected(&folder, &format!("{call}:error=EIO:when={turn}"), &words);
+            assert!(matches!(ran.status, Some(0 | 2)), "{call} {turn}: {:?} {}", ran.status, ran.err);
+            assert!(!ran.err.contains("fault in sj"), "{call} {turn}: {}", ran.err);
+            let image = folder.read("a.img");
+            assert!(image == new || image == old && ran.status == Some(2), "{call} {turn}: {}", ran.err);
+            assert_eq!(folder.names(), ["a.img", "one"], "{call} {turn}");
+            if !made {
+                break;
+            }
+        }
+    }
 }
