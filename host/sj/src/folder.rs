@@ -1,16 +1,13 @@
 //! What a folder holds.
 
 use std::ffi::OsString;
-use std::fs;
+use std::fs::File;
 use std::io;
 use std::path::Path;
 
 /// The names in a folder, sorted.
 pub fn names(folder: &Path) -> io::Result<Vec<OsString>> {
-    let mut names = Vec::new();
-    for entry in fs::read_dir(folder)? {
-        names.push(entry?.file_name());
-    }
+    let mut names = system::folder::names(&File::open(folder)?)?;
     names.sort();
     Ok(names)
 }

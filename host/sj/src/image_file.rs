@@ -1,15 +1,19 @@
 //! Image files: read whole or as far as is needed, and changed so that the old image or the new one is there at any
 //! time.
 
+use crate::beside::{self, Beside};
 use crate::failure::{Failure, shown};
-use crate::progress;
-use crate::save::{self, Draft};
+use crate::input;
+use crate::keep::Old;
+use crate::progress::Wait;
+use crate::target::Target;
 use skilletjay::{BLOCK, HEAD, Image, Slot};
 use std::fs::{self, File, Metadata, OpenOptions};
-use std::io::Read;
-use std::os::unix::fs::{FileExt, MetadataExt};
+use std::io::{self, Read};
+use std::os::unix::fs::{FileExt, FileTypeExt, MetadataExt};
 use std::path::{Path, PathBuf};
 use std::time::Duration;
+use system::descriptors;
 
 /// The lengths of images, low density and high.
 const LENGTHS: [u64; 2] = [819_200, MOST];
@@ -17,10 +21,9 @@ const LENGTHS: [u64; 2] = [819_200, MOST];
 /// No image is longer; one byte more is enough to see that a file is no image.
 const MOST: u64 = 1_638_400;
 
-/// Reads a file up to a length and one byte more.
+/// Reads a file up to a length and one byte more; `-` is standard input.
 pub fn read_up_to(path: &Path, most: u64) -> Result<Vec<u8>, Failure> {
-    let file = File::open(path).map_err(|error| Failure::file(path, error))?;
-    read_open(&file, path, most)
+    read_open(&input::open(path)?, input::called(path), most)
 }
 
 fn read_open(file: &File, path: &Path, most: u64) -> Result<Vec<u8>, Failure> {
@@ -30,11 +33,6 @@ fn read_open(file: &File, path: &Path, most: u64) -> Result<Vec<u8>, Failure> {
     let mut bytes = Vec::with_capacity(length as usize + 1);
     file.take(most + 1).read_to_end(&mut bytes).map_err(failed)?;
     Ok(bytes)
-}
-
-/// Reads an image.
-pub fn read(path: &Path) -> Result<Image, Failure> {
-    Ok(Image::new(read_up_to(path, MOST)?))
 }
 
 /// Reads as much of an image as its check and its listing need.
@@ -48,8 +46,8 @@ pub fn read_head(path: &Path) -> Result<Image, Failure> {
 /// The library's answers are those on the whole image: the length and the first 5,120 bytes decide the check
 /// (`head-decides` in rules/specs/Head.antt), the list of a slot, the slot of a name and a file's blocks
 /// (`list-enough`, `find-enough` and `blocks-enough` in locate/specs/Enough.antt), and with these blocks the file's
-/// pages (`page-enough` there). Zeros that nobody reads cost no memory. What is no plain file, or not as long as an
-/// image, is read as [`read`] does.
+/// pages (`page-enough` there). Zeros that nobody reads cost no memory. Standard input, what is no plain file and what
+/// isn't as long as an image is read whole.
 pub struct Opened {
     path: PathBuf,
     file: File,
@@ -58,12 +56,14 @@ pub struct Opened {
 }
 
 impl Opened {
-    /// Opens an image and reads its head.
+    /// Opens an image and reads its head. A plain file on standard input need not stand at its start.
     pub fn new(path: &Path) -> Result<Opened, Failure> {
+        let mut file = input::open(path)?;
+        let standard = input::is_standard(path);
+        let path = input::called(path);
         let failed = |error| Failure::file(path, error);
-        let mut file = File::open(path).map_err(failed)?;
         let about = file.metadata().map_err(failed)?;
-        let whole = !about.is_file() || !LENGTHS.contains(&about.len());
+        let whole = standard || !about.is_file() || !LENGTHS.contains(&about.len());
         let bytes = if whole {
             read_open(&file, path, MOST)?
         } else {
@@ -101,11 +101,16 @@ impl Opened {
     }
 }
 
-/// A file that is read is never replaced by what is made of it.
+/// A file that is read is never replaced by what is made of it, nor written to. A terminal may well be both.
 pub fn refuse_itself(read: &Path, to: &Path) -> Result<(), Failure> {
-    match (fs::metadata(read), fs::metadata(to)) {
-        (Ok(one), Ok(other)) if identity(&one) == identity(&other) => {
-            Err(Failure::blocked(format!("{} is the file that is read; take another name", shown(to))))
+    let (about, called) = match input::is_standard(to) {
+        true => (descriptors::output().and_then(File::metadata), Path::new("standard output")),
+        false => (fs::metadata(to), to),
+    };
+    let stored = |about: &Metadata| about.is_file() || about.file_type().is_block_device();
+    match (input::about(read), about) {
+        (Ok(one), Ok(other)) if stored(&one) && identity(&one) == identity(&other) => {
+            Err(Failure::blocked(format!("{} is the file that is read; take another name", shown(called))))
         }
         _ => Ok(()),
     }
@@ -128,30 +133,33 @@ pub struct Changing {
 /// Changes an image: one run after another, and no byte of the file is written in place.
 pub fn change<T>(
     path: &Path,
-    _how: Changing,
+    how: Changing,
     change: impl FnOnce(&mut Image) -> Result<T, Failure>,
 ) -> Result<T, Failure> {
     // Through links to the file itself, so that the rename replaces it and not a link.
-    let path = fs::canonicalize(path).map_err(|error| Failure::file(path, error))?;
-    let file = lock(&path)?;
-    let mut image = Image::new(read_open(&file, &path, MOST)?);
+    let Target::Plain(at) = Target::of(path)? else {
+        return Err(Failure::file(path, io::Error::other("it is no plain file, and can't be changed")));
+    };
+    let file = lock(path, &at, how.timeout)?;
+    let mut image = Image::new(read_open(&file, path, MOST)?);
     let given = change(&mut image)?;
-    let old = file.metadata().map_err(|error| Failure::file(&path, error))?;
-    save::remove_stale(&path);
-    let mut draft = Draft::replacing(&path, &old)?;
+    beside::remove_stale(&at);
+    let old = Old::open(file).map_err(|error| Failure::file(path, error))?; // locked until it is closed
+    let mut draft = Beside::replacing(&at, &old, how.force)?;
     draft.write(image.bytes())?;
     draft.keep()?;
     Ok(given)
 }
 
-/// The file at a path, locked until it is closed. Who waited for the lock may hold a file that was replaced
-/// meanwhile; then the path is opened again.
-fn lock(path: &PathBuf) -> Result<File, Failure> {
+/// The file behind a path, locked until it is closed. Who waited for the lock may hold a file that was replaced
+/// meanwhile; then it is opened again.
+fn lock(path: &Path, at: &Path, timeout: Option<Duration>) -> Result<File, Failure> {
     let failed = |error| Failure::file(path, error);
+    let mut wait = Wait::new(path, timeout);
     loop {
-        let file = OpenOptions::new().read(true).write(true).open(path).map_err(failed)?;
-        progress::lock(&file, path).map_err(failed)?;
-        let (held, there) = (file.metadata().map_err(failed)?, fs::metadata(path).map_err(failed)?);
+        let file = OpenOptions::new().read(true).write(true).open(at).map_err(failed)?;
+        wait.lock(&file)?;
+        let (held, there) = (file.metadata().map_err(failed)?, fs::metadata(at).map_err(failed)?);
         if identity(&held) == identity(&there) {
             return Ok(file);
         }

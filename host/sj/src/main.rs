@@ -4,17 +4,21 @@
 #![forbid(unsafe_code)]
 
 mod arguments;
+mod beside;
 mod commands;
 mod failure;
 mod folder;
 mod image_file;
+mod input;
 mod json;
+mod keep;
 mod manner;
 mod output;
 mod outside;
 mod progress;
 mod save;
 mod select;
+mod target;
 mod wav;
 
 use arguments::Arguments;
@@ -35,12 +39,19 @@ fn main() -> ExitCode {
             Failure::blocked("a fault in sj itself stopped it; an image is as it was or whole and new"),
         ))
     });
-    match ended {
-        Ok(()) => ExitCode::SUCCESS,
+    let status = match ended {
+        Ok(()) => 0,
         Err((manner, failure)) => {
             failure.tell(manner);
+            failure.number()
+        }
+    };
+    match output::finish() {
+        Err(failure) if status < 2 => {
+            failure.tell(Manner::default()); // an object would be lost too
             failure.status()
         }
+        _ => ExitCode::from(status),
     }
 }
 

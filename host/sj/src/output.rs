@@ -1,11 +1,19 @@
 //! Standard output and standard error.
 
 use crate::failure::Failure;
-use std::io::{self, ErrorKind, Write, stderr, stdout};
+use std::io::{self, ErrorKind, Write, stderr};
 use std::path::Path;
+use std::sync::atomic::{AtomicBool, Ordering::Relaxed};
+use system::descriptors;
 
 /// No line of a longer text has more columns.
 const COLUMNS: usize = 100;
+
+/// Whether something went to standard output.
+static USED: AtomicBool = AtomicBool::new(false);
+
+/// Whether something that should have gone there is lost.
+static LOST: AtomicBool = AtomicBool::new(false);
 
 /// Writes bytes to standard output. They were asked for, so a reader that closes it early has not got them.
 pub fn write(bytes: &[u8]) -> Result<(), Failure> {
@@ -15,14 +23,29 @@ pub fn write(bytes: &[u8]) -> Result<(), Failure> {
 /// Writes text to standard output. A reader that has seen enough of it and closes it is no failure.
 pub fn say(text: &str) -> Result<(), Failure> {
     match written(text.as_bytes()) {
-        Err(error) if error.kind() != ErrorKind::BrokenPipe => Err(failed(error)),
+        Err(error) if error.kind() != ErrorKind::BrokenPipe => {
+            LOST.store(true, Relaxed);
+            Err(failed(error))
+        }
         _ => Ok(()),
     }
 }
 
+/// Says at the end of a run whether all that was written to standard output arrived. Some file systems tell only when
+/// a file is closed that they have no room for it.
+pub fn finish() -> Result<(), Failure> {
+    if LOST.load(Relaxed) {
+        return Err(failed(io::Error::other("it couldn't be written")));
+    }
+    if !USED.load(Relaxed) {
+        return Ok(());
+    }
+    descriptors::duplicate(1).and_then(descriptors::closed).map_err(failed)
+}
+
 /// Writes a message to standard error. If that fails there is nowhere to tell it, and the status says how the run went.
 pub fn warn(text: &str) {
-    let _ = writeln!(stderr(), "sj: {text}");
+    let _ = stderr().write_all(format!("sj: {text}\n").as_bytes()); // at once, so that two runs' lines don't mix
 }
 
 /// Writes a message whose words may be long: broken into lines, but for what it is about.
@@ -73,10 +96,10 @@ pub fn wrapped_to(columns: usize, text: &str) -> String {
     lines.join("\n")
 }
 
+/// Each text is one call, and nothing is held back.
 fn written(bytes: &[u8]) -> io::Result<()> {
-    let mut out = stdout().lock();
-    out.write_all(bytes)?;
-    out.flush()
+    USED.store(true, Relaxed);
+    descriptors::output()?.write_all(bytes)
 }
 
 fn failed(error: io::Error) -> Failure {

@@ -159,7 +159,7 @@ fn a_folder_whose_sync_fails_is_told() {
     assert_eq!((ran.status, ran.out), (Some(0), b"#0\n".to_vec()));
     assert!(ran.err.contains("a.img is in place, but may not survive a power cut"), "{}", ran.err);
     assert_eq!(calls::find(&folder.read("a.img"), b"A         "), Ok(0));
-    let draft = trace.lines().find(|line| line.contains(".a.img.sj-")).expect("a draft");
+    let draft = trace.lines().find(|line| line.contains("/.sj-")).expect("a draft");
     assert!(draft.contains("0600"), "{draft}");
 }
 
@@ -200,31 +200,6 @@ fn an_interrupted_run_leaves_a_whole_image() {
         assert!(image == old || image == new, "turn {turn}");
     }
     assert!(interrupted > 0);
-}
-
-/// A draft goes only if it is a plain file of this image, of a process that is gone.
-#[test]
-fn the_next_run_removes_what_an_interrupted_one_left() {
-    let folder = Folder::new("stale");
-    folder.write("a.img", &vec![0; 819_200]);
-    folder.write("one", b"1");
-    let gone = 4_194_305; // above the highest number that Linux gives
-    let own = std::process::id();
-    let left = [format!(".a.img.sj-{gone}-0"), format!(".a.img.sj-{gone}-7")];
-    let kept = [
-        format!(".a.img.sj-{own}-0"),
-        format!(".a.img.sj-{gone}-0.bak"),
-        format!(".b.img.sj-{gone}-0"),
-        format!("a.img.sj-{gone}-0"),
-    ];
-    left.iter().chain(&kept).for_each(|name| folder.write(name, b"x"));
-    fs::create_dir(folder.0.join(format!(".a.img.sj-{gone}-1"))).expect("a folder");
-    symlink("one", folder.0.join(format!(".a.img.sj-{gone}-2"))).expect("a link");
-    folder.sj(&["put", "a.img", "one", "--name", "A", "--type", "s"]).failed(1, &["refusal 11"]);
-    let before = folder.names();
-    folder.sj(&["put", "a.img", "one", "--name", "A", "--type", "S"]).done();
-    let expected: Vec<String> = before.into_iter().filter(|name| !left.contains(name)).collect();
-    assert_eq!((folder.names(), expected.len()), (expected.clone(), kept.len() + 4));
 }
 
 #[test]
