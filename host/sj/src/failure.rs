@@ -1,5 +1,6 @@
 //! Why a run failed, what is told about it, and the exit status.
 
+use crate::input;
 use crate::json::Object;
 use crate::manner::Manner;
 use crate::output;
@@ -167,7 +168,7 @@ fn counted(counts: Place) -> String {
 
 /// What a path of a file to read is called: its text, or standard input.
 pub fn named(path: &Path) -> String {
-    if path.as_os_str() == "-" { "standard input".into() } else { path.display().to_string() }
+    input::called(path).display().to_string()
 }
 
 /// A text as it may be printed: in quotes, with escapes, where it holds what would not show as itself.

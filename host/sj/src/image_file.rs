@@ -2,7 +2,7 @@
 //! time.
 
 use crate::beside::{self, Beside};
-use crate::failure::{Failure, shown};
+use crate::failure::{Failure, named, shown};
 use crate::input;
 use crate::keep::Old;
 use crate::progress::Wait;
@@ -81,7 +81,7 @@ impl Opened {
 
     /// Reads the blocks of the file in a slot.
     pub fn fetch_file(&mut self, slot: Slot) -> Result<(), Failure> {
-        let refused = |refusal| Failure::refused(shown(&self.path), refusal);
+        let refused = |refusal| Failure::refused(named(&self.path), refusal);
         let blocks = self.image().blocks(slot).map_err(refused)?;
         self.fetch(&blocks)
     }
@@ -136,6 +136,9 @@ pub fn change<T>(
     how: Changing,
     change: impl FnOnce(&mut Image) -> Result<T, Failure>,
 ) -> Result<T, Failure> {
+    if input::is_standard(path) {
+        return Err(Failure::usage("standard input can't be changed; give the image's file"));
+    }
     // Through links to the file itself, so that the rename replaces it and not a link.
     let Target::Plain(at) = Target::of(path)? else {
         return Err(Failure::file(path, io::Error::other("it is no plain file, and can't be changed")));

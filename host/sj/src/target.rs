@@ -1,6 +1,7 @@
 //! Where `-o` leads: to a file that is replaced whole, or to something that can only be written to.
 
 use crate::failure::Failure;
+use crate::input;
 use std::fs;
 use std::io::{self, ErrorKind};
 use std::path::{Path, PathBuf};
@@ -23,7 +24,7 @@ impl Target {
     /// Follows a path from link to link. All are Linux's to follow first, which may forbid it: in a folder that all may
     /// write, another user's link could lead anywhere.
     pub fn of(path: &Path) -> Result<Target, Failure> {
-        if path.as_os_str() == "-" {
+        if input::is_standard(path) {
             return Ok(Target::Own(1));
         }
         let failed = |error| Failure::file(path, error);

@@ -1,6 +1,5 @@
 //! `sj mv IMAGE OLD NEW` and `sj rm IMAGE NAME|'#SLOT'..`
 
-use super::check::changeable;
 use super::ls;
 use super::put::{put_named, refuse_empty};
 use crate::arguments::{Arguments, text};
@@ -17,7 +16,6 @@ pub fn rename(arguments: &mut Arguments) -> Result<(), Failure> {
     let how = Changing { force: arguments.flag("--force"), timeout: arguments.timeout()? };
     let (manner, replace) = (arguments.manner(), arguments.flag("--replace"));
     let path = arguments.path("the image")?;
-    changeable(&path)?;
     let old = arguments.next("the file's name or '#slot'")?;
     let new = text("name", arguments.next("the new name")?)?;
     arguments.end()?;
@@ -51,7 +49,6 @@ pub fn remove(arguments: &mut Arguments) -> Result<(), Failure> {
     let how = Changing { force: arguments.flag("--force"), timeout: arguments.timeout()? };
     let manner = arguments.manner();
     let path: PathBuf = arguments.path("the image")?;
-    changeable(&path)?;
     let words = arguments.some("the file's name or '#slot'")?;
     let about = named(&path);
     let chosen = image_file::change(&path, how, |image| {
@@ -67,10 +64,10 @@ pub fn remove(arguments: &mut Arguments) -> Result<(), Failure> {
 
 /// The files that a change was about: in JSON always, in lines where that is news.
 fn tell(path: &Path, manner: Manner, entries: &[Entry], news: bool) -> Result<(), Failure> {
-    for entry in entries {
+    for entry in entries.iter().filter(|_| !manner.quiet) {
         if manner.json {
             output::say(&ls::fields(Object::new().text("file", &named(path)), entry).line())?;
-        } else if news && !manner.quiet {
+        } else if news {
             output::say(&format!("{} [{}]\n", entry.slot, entry.name.trim_end()))?;
         }
     }

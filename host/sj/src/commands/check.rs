@@ -6,7 +6,6 @@ use crate::failure::{Failure, counting, named, plain};
 use crate::image_file;
 use crate::json::Object;
 use skilletjay::{BLOCK, Checked};
-use std::path::Path;
 
 /// Checks every image, also after one that fails; the status is the worst.
 pub fn run(arguments: &mut Arguments) -> Result<(), Failure> {
@@ -37,12 +36,4 @@ pub fn object(about: &str, checked: &Checked) -> Object {
         .number("files", checked.files)
         .number("free", checked.free)
         .number("free_bytes", BLOCK * checked.free)
-}
-
-/// Where an image was given: never standard input, which can't be changed.
-pub fn changeable(path: &Path) -> Result<(), Failure> {
-    if path.as_os_str() == "-" {
-        return Err(Failure::usage("standard input can't be changed; give the image's file"));
-    }
-    Ok(())
 }

@@ -4,7 +4,7 @@ use super::ls;
 use crate::failure::{Failure, named, shown};
 use crate::json::Object;
 use crate::manner::Manner;
-use crate::{image_file, output, outside, save};
+use crate::{image_file, input, output, outside};
 use skilletjay::Entry;
 use std::fs;
 use std::path::{Path, PathBuf};
@@ -39,7 +39,7 @@ impl Out {
         folder: &Path,
         name: impl Fn(&Entry) -> String,
     ) -> Result<Vec<PathBuf>, Failure> {
-        if folder.as_os_str() == "-" {
+        if input::is_standard(folder) {
             return Err(Failure::usage("several files need a folder, and - is standard output: give -o DIR"));
         }
         fs::create_dir_all(folder).map_err(|error| Failure::file(folder, error))?;
@@ -53,9 +53,6 @@ impl Out {
 
     /// A name that sj chose never replaces a file unasked, and no name replaces the image that is read.
     fn free_to_write(&self, to: &Path, replace: bool) -> Result<(), Failure> {
-        if to.as_os_str() == "-" {
-            return Ok(());
-        }
         image_file::refuse_itself(&self.path, to)?;
         if !replace && to.symlink_metadata().is_ok() {
             return Err(Failure::blocked(format!("{} is there already; --force replaces it", shown(to))));
@@ -66,7 +63,7 @@ impl Out {
     /// Tells of a file whose name sj chose, or in JSON of any, where it is.
     pub fn tell(&self, entry: &Entry, to: &Path, chosen: bool) -> Result<(), Failure> {
         let known = !chosen && !self.manner.json; // the caller named it
-        if self.manner.quiet || known || to.as_os_str() == "-" {
+        if self.manner.quiet || known || input::is_standard(to) {
             return Ok(());
         }
         if self.manner.json {
@@ -76,9 +73,4 @@ impl Out {
         let name = to.file_name().map(Path::new).unwrap_or(to); // the folder is the caller's own
         output::say(&format!("{} [{}] -> {}\n", entry.slot, entry.name.trim_end(), shown(name)))
     }
-}
-
-/// Writes a whole file, or to standard output.
-pub fn write(to: &Path, bytes: &[u8]) -> Result<(), Failure> {
-    if to.as_os_str() == "-" { output::write(bytes) } else { save::save(to, bytes) }
 }

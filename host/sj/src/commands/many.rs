@@ -5,7 +5,7 @@ use crate::failure::Failure;
 use crate::json::Object;
 use crate::manner::Manner;
 use crate::progress::Progress;
-use crate::{folder, output};
+use crate::{folder, input, output};
 use std::collections::BTreeMap;
 use std::ffi::OsString;
 use std::fs;
@@ -33,7 +33,7 @@ pub fn each(
     let (mut images, mut folders) = (Vec::new(), false);
     for word in words {
         let path = PathBuf::from(word);
-        if path.as_os_str() != "-" && fs::metadata(&path).is_ok_and(|about| about.is_dir()) {
+        if !input::is_standard(&path) && fs::metadata(&path).is_ok_and(|about| about.is_dir()) {
             folders = true;
             gather(&path, &mut images, &mut |failure| tally.fails(&failure, manner));
         } else {

@@ -1,6 +1,5 @@
 //! `sj put IMAGE FILE..`
 
-use super::check::changeable;
 use super::ls;
 use crate::arguments::{Arguments, text};
 use crate::failure::{Failure, counting, named, plain};
@@ -28,7 +27,6 @@ pub fn run(arguments: &mut Arguments) -> Result<(), Failure> {
     let how = Changing { force: arguments.flag("--force"), timeout: arguments.timeout()? };
     let (manner, replace) = (arguments.manner(), arguments.flag("--replace"));
     let path = arguments.path("the image")?;
-    changeable(&path)?;
     let files = new_files(arguments)?;
     let entries = image_file::change(&path, how, |image| put_all(&named(&path), image, &files, replace))?;
     let done = if let [entry] = &entries[..] { entry.slot.to_string() } else { "the image".into() };
@@ -136,12 +134,10 @@ pub fn put_named(
 
 /// For one file its slot; for several a line each.
 fn tell(path: &Path, manner: Manner, files: &[New], entries: &[Entry]) -> Result<(), Failure> {
-    for (file, entry) in files.iter().zip(entries) {
+    for (file, entry) in files.iter().zip(entries).filter(|_| !manner.quiet) {
         let line = if manner.json {
             let object = Object::new().text("file", &named(path));
             ls::fields(object, entry).text("from", &named(&file.from)).line()
-        } else if manner.quiet {
-            continue;
         } else if let [_] = files {
             format!("{}\n", entry.slot)
         } else {

@@ -72,8 +72,9 @@ impl Ran {
     /// It failed with a status, wrote nothing, and told these words.
     pub fn failed(self, status: i32, words: &[&str]) {
         assert_eq!((self.status, self.out.len()), (Some(status), 0), "{}", self.err);
+        let told = self.err.replace("\n    ", " "); // long messages are broken into lines
         for word in words {
-            assert!(self.err.contains(word), "no {word:?} in {:?}", self.err);
+            assert!(told.contains(word), "no {word:?} in {:?}", self.err);
         }
     }
 }

@@ -3,14 +3,13 @@
 use super::header::Header;
 use super::{SHIFT, Sample, fields, read};
 use crate::arguments::{Arguments, text};
-use crate::commands::into;
 use crate::commands::put::refuse_empty;
 use crate::failure::{Failure, counting, named, plain};
 use crate::json::Object;
 use crate::select::bad_character;
 use crate::wav::Wav;
 use crate::wav::smpl::Smpl;
-use crate::{image_file, output};
+use crate::{image_file, input, output, save};
 use skilletjay::{Kind, sample};
 use std::path::{Path, PathBuf};
 
@@ -32,7 +31,7 @@ pub fn pack(arguments: &mut Arguments) -> Result<(), Failure> {
     let asked = asked(arguments)?;
     let path = arguments.path("the WAV file")?;
     arguments.end()?;
-    if path == asked.like && path.as_os_str() == "-" {
+    if path == asked.like && input::is_standard(&path) {
         return Err(Failure::usage("standard input can be one of the WAV file and --like"));
     }
     image_file::refuse_itself(&path, &to)?;
@@ -50,7 +49,7 @@ pub fn pack(arguments: &mut Arguments) -> Result<(), Failure> {
         }
         Failure::refused(&about, refusal)
     })?;
-    into::write(&to, &packed)?;
+    save::save(&to, &packed)?;
     tell(arguments, &path, &to, &header)
 }
 
@@ -139,7 +138,7 @@ pub fn words_for(kind: Kind, about: &str, words: &[i16], round: bool) -> Result<
 /// Told only as an object: the caller knows what was to be made.
 fn tell(arguments: &Arguments, path: &Path, to: &Path, header: &Header) -> Result<(), Failure> {
     let manner = arguments.manner();
-    if !manner.json || manner.quiet || to.as_os_str() == "-" {
+    if !manner.json || manner.quiet || input::is_standard(to) {
         return Ok(());
     }
     let object = fields(Object::new().text("file", &named(path)), header);

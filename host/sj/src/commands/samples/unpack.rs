@@ -2,13 +2,13 @@
 
 use super::{SHIFT, Sample, fields, read};
 use crate::arguments::Arguments;
-use crate::commands::into::{self, Out};
+use crate::commands::into::Out;
 use crate::failure::{Failure, counting, named, plain};
 use crate::image_file::{self, Opened};
 use crate::json::Object;
 use crate::progress::Progress;
 use crate::wav::Wav;
-use crate::{output, outside, select};
+use crate::{input, output, outside, save, select};
 use skilletjay::{Entry, Image, Kind};
 use std::path::{Path, PathBuf};
 
@@ -24,8 +24,8 @@ fn from_file(arguments: &mut Arguments) -> Result<(), Failure> {
     image_file::refuse_itself(&path, &to)?;
     let sample = sample_in(&path)?;
     let object = fields(Object::new().text("file", &named(&path)), &sample.header);
-    into::write(&to, &wav_of(&named(&path), sample)?.to_bytes())?;
-    if !manner.json || manner.quiet || to.as_os_str() == "-" {
+    save::save(&to, &wav_of(&named(&path), sample)?.to_bytes())?;
+    if !manner.json || manner.quiet || input::is_standard(&to) {
         return Ok(()); // the caller knows where it is
     }
     output::say(&object.text("to", &to.display().to_string()).line())
@@ -71,7 +71,7 @@ fn samples(image: &Image<&[u8]>) -> Result<Vec<Entry>, skilletjay::Refusal> {
 
 fn one(out: &Out, mut opened: Opened, entry: &Entry, to: Option<&Path>) -> Result<(), Failure> {
     let file = out.file(entry, to, outside::wav_name)?;
-    into::write(&file, &wav_on(out, &mut opened, entry)?)?;
+    save::save(&file, &wav_on(out, &mut opened, entry)?)?;
     out.tell(entry, &file, to.is_none())
 }
 
@@ -80,7 +80,7 @@ fn several(out: &Out, mut opened: Opened, entries: &[Entry], folder: &Path) -> R
     let files = out.files(entries, folder, outside::wav_name)?;
     let (mut done, mut progress) = (0, Progress::new(entries.len()));
     for (entry, to) in entries.iter().zip(&files) {
-        match wav_on(out, &mut opened, entry).and_then(|wav| into::write(to, &wav)) {
+        match wav_on(out, &mut opened, entry).and_then(|wav| save::save(to, &wav)) {
             Ok(()) => {
                 done += 1;
                 progress.before_line();
