@@ -166,9 +166,12 @@ fn counted(counts: Place) -> String {
     if counts == Place::None { String::new() } else { counts.to_string() }
 }
 
-/// What a path of a file to read is called: its text, or standard input.
+/// What a path of a file to read is called: its text, or standard input. An empty one has to show too.
 pub fn named(path: &Path) -> String {
-    input::called(path).display().to_string()
+    match path.as_os_str().is_empty() {
+        true => plain(""),
+        false => input::called(path).display().to_string(),
+    }
 }
 
 /// A text as it may be printed: in quotes, with escapes, where it holds what would not show as itself.

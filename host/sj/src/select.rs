@@ -28,6 +28,11 @@ pub struct Chosen {
     pub single: bool,
 }
 
+/// A name as the disk has it. Spaces at its end are no part of what was meant, so that one too many is no other name.
+pub fn padded(kind: Kind, name: &str) -> String {
+    kind.padded(name.trim_end_matches(' '))
+}
+
 /// The files that words name, each once, in the words' order: a slot, a name, or a pattern that stands for every name
 /// that it matches. A name that is on the disk to the letter is that file alone, also where it looks like a pattern.
 pub fn chosen<B: AsRef<[u8]>>(
@@ -57,7 +62,7 @@ fn named<B: AsRef<[u8]>>(
     let refused = |refusal| refused_name(about, kind, word, refusal);
     let found = match slot_number(word) {
         Some(slot) => Ok(slot),
-        None => image.find(kind.padded(word)),
+        None => image.find(padded(kind, word)),
     };
     match found {
         Ok(slot) => Ok((vec![image.list(slot).map_err(refused)?], false)),

@@ -281,6 +281,8 @@ fn messages_are_short_and_plain() {
         assert!(ran.err.lines().all(|line| line.chars().count() <= 100), "{}", ran.err);
         assert!(!ran.err.trim_end().contains(|character: char| character.is_control() && character != '\n'));
     }
+    assert!(folder.sj(&["check", ""]).err.starts_with("sj: \"\": No such file"));
+    folder.sj(&["get", "a.img", "A              ", "-o", "-"]).done(); // spaces at the end are no part of a name
     folder.sj(&["put", "a.img", "B.S", "--name", "", "--allow-empty-name"]).done();
     assert_eq!(names(&folder.read("a.img")), ["A", ""]);
 }

@@ -38,8 +38,8 @@ fn renamed(about: &str, image: &mut Image, old: &Entry, new: &str, replace: bool
     let kind = image.check().map_err(refused)?.kind;
     let content = image.read(old.slot).map_err(refused)?;
     image.remove(&old.name).map_err(refused)?;
-    if replace && image.find(kind.padded(new)).is_ok() {
-        image.remove(kind.padded(new)).map_err(refused)?;
+    if replace && image.find(select::padded(kind, new)).is_ok() {
+        image.remove(select::padded(kind, new)).map_err(refused)?;
     }
     put_named(about, image, kind, (new, old.file_type), &content)
 }

@@ -93,16 +93,16 @@ pub fn refuse_empty(arguments: &Arguments, name: &str) -> Result<(), Failure> {
 fn put_all(about: &str, image: &mut Image, files: &[New], replace: bool) -> Result<Vec<Entry>, Failure> {
     let kind = image.check().map_err(|refusal| Failure::refused(about, refusal))?.kind;
     let mut names = HashSet::new();
-    if let Some(twice) = files.iter().find(|file| !names.insert(kind.padded(&file.name))) {
+    if let Some(twice) = files.iter().find(|file| !names.insert(select::padded(kind, &file.name))) {
         return Err(Failure::usage(format!("{} is the name of two of the files", plain(&twice.name))));
     }
     files.iter().map(|file| put_one(about, image, kind, file, replace)).collect()
 }
 
 fn put_one(about: &str, image: &mut Image, kind: Kind, file: &New, replace: bool) -> Result<Entry, Failure> {
-    if replace && image.find(kind.padded(&file.name)).is_ok() {
+    if replace && image.find(select::padded(kind, &file.name)).is_ok() {
         image
-            .remove(kind.padded(&file.name))
+            .remove(select::padded(kind, &file.name))
             .map_err(|refusal| select::refused_name(about, kind, &file.name, refusal))?;
     }
     put_named(about, image, kind, (&file.name, file.file_type), &file.content)
@@ -116,7 +116,7 @@ pub fn put_named(
     (name, file_type): (&str, u8),
     content: &[u8],
 ) -> Result<Entry, Failure> {
-    let put = image.put(kind.padded(name), file_type, content).and_then(|slot| image.list(slot));
+    let put = image.put(select::padded(kind, name), file_type, content).and_then(|slot| image.list(slot));
     put.map_err(|refusal| match refusal.number() {
         11 if select::bad_character(kind, name).is_none() => {
             let words = select::bad_type(kind, file_type).unwrap_or_default();
