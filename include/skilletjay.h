@@ -18,9 +18,9 @@
 #include <stddef.h>
 #include <stdint.h>
 
-#define SJ_VERSION "0.2.0"
+#define SJ_VERSION "0.3.0"
 #define SJ_VERSION_MAJOR 0
-#define SJ_VERSION_MINOR 2
+#define SJ_VERSION_MINOR 3
 #define SJ_VERSION_PATCH 0
 
 #ifdef __cplusplus

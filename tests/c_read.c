@@ -311,11 +311,11 @@ static void names_twice(volume *v) {
 }
 
 /* Values that are neither a link nor the end mark: a free block's, the blocks next to the data area, a system block's, the other kind's
- * end mark, the largest. */
-enum { STRAY_VALUES = 6 };
+ * end mark, a slip of the source for the S1000's, the largest. */
+enum { STRAY_VALUES = 7 };
 
 static unsigned stray_value(const shape *s, int k) {
-    unsigned values[STRAY_VALUES] = {0, (unsigned)s->first - 1, (unsigned)s->blocks, 16384, s->kind == 900 ? 19152 : 32768, 65535};
+    unsigned values[STRAY_VALUES] = {0, (unsigned)s->first - 1, (unsigned)s->blocks, 16384, s->kind == 900 ? 49152 : 32768, 19152, 65535};
     return values[k];
 }
 

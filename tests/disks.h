@@ -28,8 +28,8 @@ typedef struct {
 static const shape SHAPES[4] = {
     {900, 800, 4, 10, 32768},
     {900, 1600, 5, 10, 32768},
-    {1000, 800, 4, 12, 19152},
-    {1000, 1600, 5, 12, 19152},
+    {1000, 800, 4, 12, 49152},
+    {1000, 1600, 5, 12, 49152},
 };
 
 enum { HEAD = 5120 }; /* directory and map lie in these bytes, whatever the kind */

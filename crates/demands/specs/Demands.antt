@@ -1,20 +1,22 @@
--- What the client is owed: each sentence of the mission, in its order, as a theorem that is stated in full and proved by a citation.
+-- What the client is owed: each sentence of the mission, in its order, then each request, as a theorem that is stated in full and proved by a citation.
 -- To believe it, read these statements and the definitions they name:
 --   DiskRules (image/specs/Image), Valid (view/specs/Disk), Owed (rules/specs/Exactly), Breaks and Due (view/specs/Broken): when an image is accepted or refused;
 --   Call, Answer and stepFiles (record/specs/Record): the plain record, and a call on it; callOf and Made (rules/specs/Check): a call on any bytes;
 --   Kept (rules/specs/Demand), Pages to Joins (record/specs/Download): demand 3; TouchedBy (rules/specs/Outside): what a call may change;
 --   unpackOf and packOf (samples/specs/Samples), SampleRules (samples/specs/Rules), programOf and ProgramRules (program/specs/Program): the files;
---   toldOf and turnIn (skilletjay/specs/Told): C's results; listingOf (listing/specs/Listing): the listing program's text.
+--   toldOf and turnIn (skilletjay/specs/Told): C's results; listingOf (listing/specs/Listing): the listing program's text;
+--   lastBlock (rules/specs/Mark), Other and Reaches (map/specs/Values): request one.
 -- That the code does so is what each function's contract says, and those are proved with it. Assumes nothing.
-use mathlib.Core.Path.{_≡_}
+use mathlib.Core.Path.{_≡_, refl}
 use mathlib.Core.Bool.{true, false}
 use mathlib.Core.List.{List, _++_}
 use mathlib.Core.Option.{none, some}
 use mathlib.Core.Logic.{_↔_}
 use Prim.Native.Nat.{ℕ, _+_, _-_, _≤_, _<_, min}
+use native.Mathlib.Omega.{arith}
 use lib.Dec.{eqb}
 use lib.IntN.{ℤ}
-use lib.ListN.{length, take, drop}
+use lib.ListN.{length, getD, take, drop}
 use lib.Seq.{sets}
 use Rattle.laws.specs.declared.Lowest.the-variants.{At, Nowhere}
 use Rattle.laws.specs.declared.Refusal.{Refusal}
@@ -28,9 +30,13 @@ use Rattle.layout.specs.declared.Kind.{Kind}
 use Rattle.layout.specs.declared.Kind.the-variants.{S1000}
 use Rattle.layout.specs.declared.Density.{Density}
 use Rattle.layout.specs.Layouts.{layoutOf, lengthOf, blocksOf, firstOf, mapOffset, blockOffset}
+use Rattle.layout.specs.Right.{layout-right}
 use Rattle.names.specs.Names.{legalName, legalType}
-use Rattle.map.specs.Map.{mapAt, freeCount}
-use Rattle.view.specs.Disk.{File, takes}
+use Rattle.map.specs.Map.{mapAt, freeCount, Data, chain, Astray, Miscounted}
+use Rattle.map.specs.Values as values
+use Rattle.map.specs.Values.{Other, Reaches}
+use Rattle.view.specs.Disk.{View, File, takes, Owns}
+use Rattle.view.specs.Broken.{Breaks, owner}
 use Rattle.image.specs.Image.{filesIn, DiskRules}
 use Rattle.record.specs.Record.{Shape, Files, Call, check, list, page, refused, refusedBy, paged, Turn, fileCount, slotOf, emptySlot, free, fileAt, refuse, judgeName, judgePut, stepFiles}
 use Rattle.record.specs.Order.{roomFor}
@@ -50,6 +56,8 @@ use Rattle.rules.specs.Demand as demand
 use Rattle.rules.specs.Demand.{Ran, Behaves}
 use Rattle.rules.specs.Outside as outside
 use Rattle.rules.specs.Outside.{TouchedBy}
+use Rattle.rules.specs.Mark as mark
+use Rattle.rules.specs.Mark.{lastBlock}
 use Rattle.session.specs.Script.{runOf, entries}
 use Rattle.session.specs.Turns as scripts
 use Rattle.session.specs.Turns.{turns, leave}
@@ -236,3 +244,32 @@ listing-lines = listings.lines-of
 
 pub worked : All rows
 worked = table.table
+
+-- ---- Request one: S1000 files end on 49,152, and 19,152 is a bad value like any other
+
+pub s1000-mark : (d : Density) → layoutOf S1000 d .mark ≡ 49152
+s1000-mark d = refl
+
+-- In reading and in put: after any call on an accepted disk the last block of every file holds it.
+pub s1000-ends : (d : Density) (f n : ℕ) (img : List ℕ) → checkOf img ≡ Accepted S1000 d f n → (c : Call) (slot : ℕ) (file : File)
+    → let after = callOf img c .state in filesIn (layoutOf S1000 d) after slot ≡ some file → mapAt (bytes after) (lastBlock (layoutOf S1000 d) after slot) ≡ 49152
+s1000-ends = mark.ends-on-mark S1000
+
+pub old-mark : (d : Density) → Other (layoutOf S1000 d) 19152
+old-mark d = (λ h. omega (arith, h .1, layout-right S1000 d .blocks-most), λ e. omega arith)
+
+-- No data block of an accepted disk holds it. Before a chain's last block it is 6, at it 7, and where no chain has the block 9.
+pub old-mark-refused : (d : Density) (f n : ℕ) (img : List ℕ) → checkOf img ≡ Accepted S1000 d f n → (block : ℕ) → Data (layoutOf S1000 d) block → mapAt (bytes img) block ≡ 19152 → ⊥
+old-mark-refused d f n img accept block inside e = let z = mark.no-other-value S1000 d f n img accept block inside (rw e (old-mark d)) in omega arith
+
+pub old-mark-before : (d : Density) (m : ℕ → ℕ) (links start j : ℕ) → j < links → Reaches (layoutOf S1000 d) m links start j → m (getD (chain m links start) j 0) ≡ 19152
+    → Astray (layoutOf S1000 d) m links start
+old-mark-before d m links start j h r e = values.other-before (layoutOf S1000 d) m (layout-right S1000 d) links start j h r (rw e (old-mark d))
+
+pub old-mark-last : (d : Density) (m : ℕ → ℕ) (links start : ℕ) → Reaches (layoutOf S1000 d) m links start links → m (getD (chain m links start) links 0) ≡ 19152
+    → Miscounted (layoutOf S1000 d) m links start
+old-mark-last d m links start r e = values.other-last (layoutOf S1000 d) m links start r (rw e (old-mark d))
+
+pub old-mark-stray : (d : Density) (v : View) (block : ℕ) → Data (layoutOf S1000 d) block → v .map block ≡ 19152 → ((s : ℕ) → Owns (layoutOf S1000 d) v s block → ⊥)
+    → Breaks (layoutOf S1000 d) v owner 9 block
+old-mark-stray d v block inside e unowned = (refl, inside, λ z. omega arith, unowned)

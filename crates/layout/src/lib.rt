@@ -101,7 +101,7 @@ fn s1000_layout(blocks: usize, first: usize) -> Layout
         first: first,
         slots: 64,
         directory: 0,
-        mark: 19152,
+        mark: 49152,
         system: first,
         reserved: 16384,
         letters: 12,

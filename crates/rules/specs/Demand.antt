@@ -91,7 +91,7 @@ state-is : (k : Kind) (d : Density) (img : List ℕ) (c : Call) → DiskRules (l
 unfolding stepImage
 state-is k d img c r = ap (λ (x : Outcome (List ℕ)). x .state) (call-is k d img c r)
 
-rules-after : (k : Kind) (d : Density) (img : List ℕ) (c : Call) → DiskRules (layoutOf k d) img → DiskRules (layoutOf k d) (callOf img c .state)
+pub rules-after : (k : Kind) (d : Density) (img : List ℕ) (c : Call) → DiskRules (layoutOf k d) img → DiskRules (layoutOf k d) (callOf img c .state)
 rules-after k d img c r = rw (state-is k d img c r) (step (shapeOf k d) (layout-right k d) img r c .rules)
 
 files-after : (k : Kind) (d : Density) (img : List ℕ) (c : Call) → DiskRules (layoutOf k d) img
@@ -112,7 +112,7 @@ check-call img = go (checkOf img) refl
         rw (e, free-is (layoutOf k d) (layout-right k d) img r, w .0, w .1) refl
 
 -- a slot that holds a file is one of the disk's
-slot-inside : (l : Layout) (img : List ℕ) (s : ℕ) (file : File) → filesIn l img s ≡ some file → s < l .slots
+pub slot-inside : (l : Layout) (img : List ℕ) (s : ℕ) (file : File) → filesIn l img s ≡ some file → s < l .slots
 slot-inside l img s file e = go (decLt s (l .slots))
   where
     go : Dec (s < l .slots) → s < l .slots

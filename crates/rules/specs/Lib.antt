@@ -5,5 +5,6 @@ pub mod Head
 pub mod Demand
 pub mod Refused
 pub mod Outside
+pub mod Mark
 pub mod Small
 pub mod Lemmas

@@ -1,4 +1,5 @@
--- Document 01's worked disks and words, P1 to P13, as one table, each row about real bytes.
+-- Document 01's worked disks and words, P1 to P13, with the end mark of document 02's request one, and that request's old mark; one table, each row
+-- about real bytes.
 -- The checker computes each row on the bytes that are set; one lemma takes it to the list. Assumes nothing.
 use mathlib.Core.Path.{_≡_, refl, ap, _∙_, subst, fun-ext}
 use mathlib.Core.List.{List, [], _∷_}
@@ -62,17 +63,20 @@ abbrev pub rows : List Row
 rows =
     checks 819200 zeros (Accepted S900 Low 0 796)  -- P1
     ∷ checks 819199 zeros (Refused (refusalAt 1 0))  -- P2
-    ∷ checks 1638400 (file high 0 11 1024 5 (value 5 19152 (blank high))) (Accepted S1000 High 1 1594)  -- P3
-    ∷ checks 1638400 (file high 0 11 1025 5 (value 5 19152 (blank high))) (Refused (refusalAt 7 0))  -- P4
-    ∷ checks 1638400 (file high 0 11 1024 4 (value 5 19152 (blank high))) (Refused (refusalAt 6 0))  -- P5
+    ∷ checks 1638400 (file high 0 11 1024 5 (value 5 49152 (blank high))) (Accepted S1000 High 1 1594)  -- P3
+    ∷ checks 1638400 (file high 0 11 1025 5 (value 5 49152 (blank high))) (Refused (refusalAt 7 0))  -- P4
+    ∷ checks 1638400 (file high 0 11 1024 4 (value 5 49152 (blank high))) (Refused (refusalAt 6 0))  -- P5
     ∷ checks 819200 (file low 0 65 1 4 (value 4 32768 zeros)) (Accepted S900 Low 1 795)  -- P6
-    ∷ checks 1638400 (file high 0 11 1024 1600 (value 5 19152 (blank high))) (Refused (refusalAt 6 0))  -- P7
+    ∷ checks 1638400 (file high 0 11 1024 1600 (value 5 49152 (blank high))) (Refused (refusalAt 6 0))  -- P7
     ∷ checks 1638400 (file high 0 11 2048 5 (value 5 5 (blank high))) (Refused (refusalAt 7 0))  -- P8
-    ∷ checks 1638400 (file high 0 11 1 5 (file high 1 12 1 5 (value 5 19152 (blank high)))) (Refused (refusalAt 8 1))  -- P9
+    ∷ checks 1638400 (file high 0 11 1 5 (file high 1 12 1 5 (value 5 49152 (blank high)))) (Refused (refusalAt 8 1))  -- P9
     ∷ checks 819200 (value 9 32768 zeros) (Refused (refusalAt 9 9))  -- P10
     ∷ packs (pos 291 ∷ negsuc 0 ∷ []) (63 ∷ 18 ∷ 255 ∷ [])  -- P11
     ∷ packs (negsuc 2047 ∷ pos 2047 ∷ []) (15 ∷ 128 ∷ 127 ∷ [])  -- P12
     ∷ leaves 819200 zeros (put name 65 (replicate 1025 7)) ((4, 5) ∷ (5, 32768) ∷ [])  -- P13
+    ∷ checks 1638400 (file high 0 11 1024 5 (value 5 19152 (blank high))) (Refused (refusalAt 7 0))  -- request one: at the last block
+    ∷ checks 1638400 (file high 0 11 1025 5 (value 5 19152 (blank high))) (Refused (refusalAt 6 0))  -- before it
+    ∷ checks 1638400 (value 9 19152 (blank high)) (Refused (refusalAt 9 9))  -- where no chain has the block
     ∷ []
 
 -- ---- the rows hold
@@ -132,4 +136,4 @@ pub table : All rows
 unfolding p1 checkHead packed900
 table =
     by-computation rows
-    ((tt, refl), ((tt, refl), ((tt, refl), ((tt, refl), ((tt, refl), ((tt, refl), ((tt, refl), ((tt, refl), ((tt, refl), ((tt, refl), (refl, (refl, (p13, tt)))))))))))))
+    ((tt, refl), ((tt, refl), ((tt, refl), ((tt, refl), ((tt, refl), ((tt, refl), ((tt, refl), ((tt, refl), ((tt, refl), ((tt, refl), (refl, (refl, (p13, ((tt, refl), ((tt, refl), ((tt, refl), tt))))))))))))))))

@@ -52,7 +52,7 @@ static fault read_layout(const uint8_t *image, size_t length, layout *disk) {
     if (all_identities(image, 0))
         *disk = (layout){900, high, blocks, first, 32768, 10, 32, 126, 0, 'A', 'Z'};
     else if (all_identities(image, 0x300))
-        *disk = (layout){1000, high, blocks, first, 19152, 12, 0, 40, 32, 'a', 'z'};
+        *disk = (layout){1000, high, blocks, first, 49152, 12, 0, 40, 32, 'a', 'z'};
     else
         return (fault){2, 0};
     return (fault){0, 0};

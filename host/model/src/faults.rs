@@ -98,7 +98,7 @@ fn spoil_system(image: &mut [u8], disk: &Disk, random: &mut Random) -> Option<(u
         return None;
     }
     let block = random.below(disk.layout.first());
-    set_map(image, block, random.pick(&[0, 1, 5, 16383, 16385, 64, 19152, 32768]));
+    set_map(image, block, random.pick(&[0, 1, 5, 16383, 16385, 64, SLIP, 32768, 49152]));
     Some((3, block))
 }
 
@@ -138,8 +138,17 @@ fn spoil_chain(image: &mut [u8], disk: &Disk, fault: Fault, random: &mut Random)
     let inner = |random: &mut Random| {
         chain.split_last().filter(|(_, rest)| !rest.is_empty()).map(|(_, rest)| random.pick(rest))
     };
-    let off =
-        [0, 1, layout.first() - 1, layout.blocks(), layout.blocks() + 1, SYSTEM, other_mark(layout), 65535];
+    let off = [
+        0,
+        1,
+        layout.first() - 1,
+        layout.blocks(),
+        layout.blocks() + 1,
+        SYSTEM,
+        other_mark(layout),
+        SLIP,
+        65535,
+    ];
     let number = match fault {
         Fault::Start => {
             let start = if random.one_in(8) { layout.end_mark() } else { random.pick(&off) };
@@ -164,10 +173,13 @@ fn spoil_chain(image: &mut [u8], disk: &Disk, fault: Fault, random: &mut Random)
     Some((number, slot))
 }
 
+/// What the source gives for the S1000's end mark by a slip in the first digit: an ordinary bad value.
+const SLIP: usize = 19152;
+
 /// The end mark of the other kind: an ordinary bad value here.
 fn other_mark(layout: Layout) -> usize {
     match layout.kind {
-        Kind::S900 => 19152,
+        Kind::S900 => 49152,
         Kind::S1000 => 32768,
     }
 }
@@ -188,7 +200,7 @@ fn spoil_stray(image: &mut [u8], disk: &Disk, random: &mut Random) -> Option<(u3
         return None;
     }
     let block = random.pick(&free);
-    set_map(image, block, random.pick(&[1, 256, block, disk.layout.end_mark(), SYSTEM, 65535]));
+    set_map(image, block, random.pick(&[1, 256, block, disk.layout.end_mark(), SYSTEM, SLIP, 65535]));
     Some((9, block))
 }
 

@@ -77,7 +77,7 @@ impl Layout {
     pub fn end_mark(self) -> usize {
         match self.kind {
             Kind::S900 => 32768,
-            Kind::S1000 => 19152,
+            Kind::S1000 => 49152,
         }
     }
 

@@ -53,7 +53,7 @@ fn accepted_disks() {
     assert_eq!(counts(&p1), (0, 796));
     let mut p3 = empty(S1000_HIGH);
     slot(&mut p3, 0, 1024, 5);
-    map(&mut p3, 5, 19152);
+    map(&mut p3, 5, 49152);
     assert_eq!(check(&p3).map(|checked| checked.layout), Ok(S1000_HIGH));
     assert_eq!(counts(&p3), (1, 1594));
     let mut p6 = empty(S900_LOW);
@@ -66,7 +66,7 @@ fn accepted_disks() {
 fn refused_disks() {
     refused(&vec![0; 819_199], 1, 0); // P2
     let mut image = empty(S1000_HIGH);
-    map(&mut image, 5, 19152);
+    map(&mut image, 5, 49152);
     slot(&mut image, 0, 1025, 5); // P4
     refused(&image, 7, 0);
     slot(&mut image, 0, 1, 4); // P5
@@ -86,6 +86,21 @@ fn refused_disks() {
     let mut image = empty(S1000_LOW);
     map(&mut image, 4, 16384);
     refused(&image, 9, 4);
+}
+
+/// Request one: 49,152 ends the chains of an S1000 disk, and 19,152 is a bad value like any other.
+#[test]
+fn the_sources_slip_ends_no_chain() {
+    let mut image = empty(S1000_HIGH);
+    map(&mut image, 5, 19152);
+    refused(&image, 9, 5);
+    slot(&mut image, 0, 1024, 5);
+    refused(&image, 7, 0);
+    slot(&mut image, 0, 1025, 5);
+    refused(&image, 6, 0);
+    let mut image = empty(S1000_HIGH);
+    assert_eq!(put(&mut image, b"A           ", b's', &[7; 1025]), Ok(0));
+    assert_eq!(image[1536 + 10..][..4], [6, 0, 0, 192]);
 }
 
 #[test]
