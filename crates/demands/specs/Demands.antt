@@ -27,9 +27,10 @@ use Rattle.laws.specs.Scan.{total}
 use Rattle.laws.specs.Splice.{splice, part}
 use Rattle.laws.specs.Reader.{bytes}
 use Rattle.layout.specs.declared.Kind.{Kind}
-use Rattle.layout.specs.declared.Kind.the-variants.{S1000}
+use Rattle.layout.specs.declared.Kind.the-variants.{S900, S1000}
 use Rattle.layout.specs.declared.Density.{Density}
 use Rattle.layout.specs.Layouts.{layoutOf, lengthOf, blocksOf, firstOf, mapOffset, blockOffset}
+use Rattle.layout.specs.Right as right
 use Rattle.layout.specs.Right.{layout-right}
 use Rattle.names.specs.Names.{legalName, legalType}
 use Rattle.map.specs.Map.{mapAt, freeCount, Data, chain, Astray, Miscounted}
@@ -249,6 +250,10 @@ worked = table.table
 
 pub s1000-mark : (d : Density) → layoutOf S1000 d .mark ≡ 49152
 s1000-mark d = refl
+
+-- It is the S900's mark and a system block's value added up.
+pub mark-sum : (d : Density) → layoutOf S1000 d .mark ≡ layoutOf S900 d .mark + layoutOf S1000 d .reserved
+mark-sum = right.mark-sum
 
 -- In reading and in put: after any call on an accepted disk the last block of every file holds it.
 pub s1000-ends : (d : Density) (f n : ℕ) (img : List ℕ) → checkOf img ≡ Accepted S1000 d f n → (c : Call) (slot : ℕ) (file : File)

@@ -3,7 +3,7 @@
 use mathlib.Core.Path.{_≡_, refl, sym}
 use mathlib.Core.Bool.{true, true≢false}
 use mathlib.Core.Logic.{_⊎_, inl}
-use Prim.Native.Nat.{ℕ, _≤_, _<_}
+use Prim.Native.Nat.{ℕ, _+_, _≤_, _<_}
 use native.Mathlib.Omega.{arith}
 use Rattle.layout.specs.declared.Layout.{Layout}
 use Rattle.layout.specs.declared.Kind.{Kind}
@@ -99,3 +99,7 @@ right-1000 blocks first a = record {
 pub layout-right : (k : Kind) (d : Density) → LayoutRight (layoutOf k d)
 layout-right S900 d = right-900 (blocksOf d) (firstOf d) (area d)
 layout-right S1000 d = right-1000 (blocksOf d) (firstOf d) (area d)
+
+-- The S1000's end mark is the S900's and a system block's value added up (document 02, request one).
+pub mark-sum : (d : Density) → layoutOf S1000 d .mark ≡ layoutOf S900 d .mark + layoutOf S1000 d .reserved
+mark-sum d = refl
