@@ -91,7 +91,8 @@ fn data(file: &[u8]) -> Result<&[u8], String> {
         return Err(unfinished(chunk.body.len()));
     }
     let open = [[0; 4], [0xFF; 4]].iter().any(|length| file.get(4..8) == Some(length));
-    if (open || chunk.length == 0) && !are_chunks(chunk.after) {
+    let empty = chunk.length == 0 && !chunk.after.is_empty();
+    if empty || (open && !are_chunks(chunk.after)) {
         return Err(unfinished(chunk.length + chunk.after.len()));
     }
     Ok(chunk.body)

@@ -14,7 +14,7 @@ fn samples_go_to_wav_and_back() {
     let (folder, mut random) = (Folder::new("wav"), Random::new(1));
     for kind in [Kind::S900, Kind::S1000] {
         for words in [0, 2, 1000, 40_000] {
-            let file = files::sample(kind, words, &mut random);
+            let file = sound::within(kind, words, files::sample(kind, words, &mut random));
             folder.write("a", &file);
             folder.sj(&["unpack", "a", "-o", "a.wav"]).done();
             assert_eq!(sound::chunk(&folder.read("a.wav"), b"data").map(|data| data.len()), Some(2 * words));

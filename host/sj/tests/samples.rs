@@ -8,7 +8,7 @@ use model::files;
 use model::layout::Kind;
 use model::random::Random;
 use skilletjay::Image;
-use sound::{Loop, chunk, data, four, set_four, smpl, told, wav, wav_with};
+use sound::{Loop, chunk, data, format, four, riff, set_four, smpl, told, wav, wav_with, within};
 use std::fs;
 
 /// A legal sample that can be a WAV file: its rate isn't 0.
@@ -133,14 +133,14 @@ fn an_s900_disk_has_samples_of_type_s() {
     assert!(ran.err.replace("\n    ", " ").contains("1 of 2 samples unpacked before"), "{}", ran.err);
 }
 
-/// Every sample there and back through the command, S900 and S1000, with loops of noise.
+/// Every sample there and back through the command, S900 and S1000, with loops of noise that end in the words.
 #[test]
 fn samples_of_both_kinds_come_back() {
     let (folder, mut random) = (Folder::new("back"), Random::new(5));
     for turn in 0..60 {
         let kind = [Kind::S900, Kind::S1000][turn % 2];
         let words = 2 * random.below(200);
-        let file = sample(kind, words, &mut random);
+        let file = within(kind, words, sample(kind, words, &mut random));
         folder.write("a", &file);
         folder.sj(&["unpack", "a", "-o", "a.wav"]).done();
         folder.sj(&["pack", "a.wav", "--like", "a", "-o", "b"]).done();
@@ -318,22 +318,27 @@ fn loops_past_the_words_are_refused_or_clipped() {
     let new = folder.read("new");
     assert_eq!((new[16], four(&new, 50), four(&new, 56)), (2, 20, 5));
     // No words, no loops.
-    folder.write("in.wav", &wav_with(10_000, &[], smpl(60, 0, &[(0, 0, 9, 0, 0)])));
+    let told = smpl(60, 0, &[(0, 0, 9, 0, 0)]);
+    folder.write("in.wav", &riff(&[(b"fmt ", format(10_000)), (b"smpl", told), (b"data", Vec::new())]));
     folder.sj(&pack).failed(1, &["past the 0 words"]);
     folder.sj(&clip).done();
     assert_eq!(folder.read("new")[16], 0);
 }
 
-/// The same sample comes back, whatever its loops: only another number of words asks for a look at them.
+/// The same where there are as many words as before: a sample that plays past its words isn't made again.
 #[test]
-fn loops_that_were_past_the_words_already_stay() {
+fn loops_that_were_past_the_words_already_are_refused_or_clipped() {
     let (folder, mut random) = (Folder::new("past-already"), Random::new(11));
     let like = s1000(60, 0, &[(500, 1, 5, 300)], &mut random);
     unpacked(&folder, &like);
-    folder.sj(&["pack", "a.wav", "--like", "a", "-o", "b"]).done();
-    assert_eq!(folder.read("b"), like);
     folder.write("more.wav", &wav(10_000, &[0; 101]));
-    folder.sj(&["pack", "more.wav", "--like", "a", "-o", "c"]).failed(1, &["loop 1 of a ends at 500"]);
+    for file in ["a.wav", "more.wav"] {
+        folder.sj(&["pack", file, "--like", "a", "-o", "b"]).failed(1, &["loop 1 of a ends at 500"]);
+    }
+    folder.sj(&["pack", "a.wav", "--like", "a", "-o", "b", "--clip-loops"]).done();
+    let new = folder.read("b");
+    assert_eq!((four(&new, 38), four(&new, 44)), (100, 5));
+    assert!(new[..38] == like[..38] && new[50..] == like[50..]);
 }
 
 #[test]

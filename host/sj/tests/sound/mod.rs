@@ -1,6 +1,8 @@
 //! WAV files made and read by the tests' own hand.
 #![allow(dead_code, missing_docs)] // each test takes what it needs
 
+use model::layout::Kind;
+
 /// A WAV file: its chunks one after another.
 pub fn riff(chunks: &[(&[u8; 4], Vec<u8>)]) -> Vec<u8> {
     let mut file = b"RIFF\0\0\0\0WAVE".to_vec();
@@ -48,6 +50,14 @@ pub fn smpl(note: u32, fraction: u32, loops: &[Loop]) -> Vec<u8> {
 /// A WAV file of words with a smpl chunk after them, as editors write it.
 pub fn wav_with(rate: u32, words: &[i16], smpl: Vec<u8>) -> Vec<u8> {
     riff(&[(b"fmt ", format(rate)), (b"data", data(words)), (b"smpl", smpl)])
+}
+
+/// A sample of so many words whose eight loops, if its kind has such, end in the words.
+pub fn within(kind: Kind, words: usize, mut file: Vec<u8>) -> Vec<u8> {
+    if kind == Kind::S1000 {
+        (0..8).for_each(|at| set_four(&mut file, 38 + 12 * at, (words / (at + 1)) as u32));
+    }
+    file
 }
 
 /// The body of a chunk.

@@ -98,9 +98,9 @@ impl Header {
         self.bytes[at..at + codes.len()].copy_from_slice(&codes);
     }
 
-    /// What lies past the words or past the end marker, in words; None if nothing does. An S1000's loops are looked at only
-    /// if that is asked for: no rule of the library is about them.
-    pub fn past(&self, of: &str, loops: bool) -> Option<String> {
+    /// What lies past the words or past the end marker, in words; None if nothing does. No rule of the library is about an
+    /// S1000's loops, but a sampler would play past the words.
+    pub fn past(&self, of: &str) -> Option<String> {
         let (words, end, start) = (self.words(), self.end(), self.four(self.fields().start));
         let by_words = format!("past the {}", counting(words as usize, "word"));
         if end > words {
@@ -112,7 +112,7 @@ impl Header {
         if let Some(length) = self.loop_length().filter(|&length| length > end) {
             return Some(format!("the loop length of {of} is {length}, past the end at {end}"));
         }
-        let beyond = self.active().into_iter().find(|held| loops && held.marker > words)?;
+        let beyond = self.active().into_iter().find(|held| held.marker > words)?;
         Some(format!("loop {} of {of} ends at {}, {by_words}", beyond.at + 1, beyond.marker))
     }
 

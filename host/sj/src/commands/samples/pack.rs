@@ -63,7 +63,7 @@ fn asked(arguments: &Arguments) -> Result<Asked, Failure> {
 }
 
 /// The header for a WAV's words: the other sample's, with the WAV's number and rate, its note and loops where it tells them,
-/// and no marker past the words.
+/// and no marker or active loop past the words.
 pub fn header_for(like: &Header, about: &str, wav: &Wav, asked: &Asked) -> Result<Header, Failure> {
     let Ok(rate) = u16::try_from(wav.rate) else {
         let words = format!("its rate is {}, and a sample's at most 65535; resample it", wav.rate);
@@ -79,7 +79,7 @@ pub fn header_for(like: &Header, about: &str, wav: &Wav, asked: &Asked) -> Resul
     }
     if asked.clip {
         header.clip();
-    } else if let Some(past) = header.past(&plain(&named(&asked.like)), words != like.words()) {
+    } else if let Some(past) = header.past(&plain(&named(&asked.like))) {
         let advice =
             "Give --clip-loops to move markers and loops back to the last word, or take a header that fits.";
         return Err(Failure::declined(about, format!("{past}; --clip-loops moves it back"), advice));
