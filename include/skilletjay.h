@@ -18,9 +18,9 @@
 #include <stddef.h>
 #include <stdint.h>
 
-#define SJ_VERSION "0.3.0"
+#define SJ_VERSION "0.4.0"
 #define SJ_VERSION_MAJOR 0
-#define SJ_VERSION_MINOR 3
+#define SJ_VERSION_MINOR 4
 #define SJ_VERSION_PATCH 0
 
 #ifdef __cplusplus
@@ -75,7 +75,7 @@ typedef struct {
 typedef struct {
     uint32_t refusal;
     size_t place;
-    uint8_t name[12]; /* ASCII; on an S900 disk ten bytes and two zeros */
+    uint8_t name[12]; /* ASCII; on an S900 disk ten bytes and two zeros, on an S1000 disk letters in capitals */
     uint8_t type;     /* the type byte, A to Z (S900) or a to z (S1000) */
     size_t length;    /* the file's bytes */
 } sj_listed;
@@ -107,11 +107,13 @@ typedef struct {
 /* Whether an image is accepted: refusals 1 to 9. Reads the length and the first 5,120 bytes. The image is lent and kept. */
 sj_checked sj_check(const uint8_t *image, size_t image_len);
 
-/* What a slot holds, 0 to 63: refusals 1 to 9, then 10 if it is empty or there is no such slot. The image is lent and kept. */
+/* What a slot holds, 0 to 63: refusals 1 to 9, then 10 if it is empty or there is no such slot. An S1000 name is given in capitals, however it
+ * was typed. The image is lent and kept. */
 sj_listed sj_list(const uint8_t *image, size_t image_len, size_t slot);
 
 /* The slot of the file with a name, in ASCII and of its exact length, 10 bytes (S900) or 12 (S1000), padded with spaces: refusals
- * 1 to 9, then 11, then 10. Image and name are lent and kept. */
+ * 1 to 9, then 11, then 10. On S1000 disks a to z in a name are taken as A to Z, here and in sj_put and sj_remove; S900 names keep their
+ * case. Image and name are lent and kept. */
 sj_found sj_find(const uint8_t *image, size_t image_len, const uint8_t *name, size_t name_len);
 
 /* The file's bytes from an offset on: as many as the output holds and the file has left are written to the output's front. The
@@ -128,12 +130,13 @@ sj_paged sj_page(const uint8_t *image, size_t image_len, size_t slot, size_t off
 sj_counted sj_blocks(const uint8_t *image, size_t image_len, size_t slot, uint16_t *blocks, size_t blocks_len);
 
 /* Puts a file: the lowest empty slot, the lowest free blocks in rising order, zeros after the content in its last block. The name is as for
- * sj_find, the type A to Z (S900) or a to z (S1000). Refusals 1 to 9, then 11, 13, 12, 14, 15, 16. Name and content are lent and kept;
- * so is the image on a refusal. On 16: 15 is asked first, so it is never given. */
+ * sj_find, and an S1000 disk keeps it in capitals: two spellings that differ in case alone are one name there, 12. The type is A to Z (S900)
+ * or a to z (S1000). Refusals 1 to 9, then 11, 13, 12, 14, 15, 16. Name and content are lent and kept; so is the image on a refusal. On 16:
+ * 15 is asked first, so it is never given. */
 sj_found sj_put(uint8_t *image, size_t image_len, const uint8_t *name, size_t name_len, uint8_t type, const uint8_t *content, size_t content_len);
 
-/* Removes the file with a name: its slot becomes zeros but for the identity, its blocks free; data bytes stay. Refusals 1 to 9, then 11, then
- * 10. The name is lent and kept; so is the image on a refusal. */
+/* Removes the file with a name, which is as for sj_find: its slot becomes zeros but for the identity, its blocks free; data bytes stay. Refusals
+ * 1 to 9, then 11, then 10. The name is lent and kept; so is the image on a refusal. */
 sj_done sj_remove(uint8_t *image, size_t image_len, const uint8_t *name, size_t name_len);
 
 /* Makes the calls of a script one after another on one image, and gives how many were made. It ends at the script's end, before the first entry

@@ -14,12 +14,12 @@ static void set_number(uint8_t *at, int width, size_t value) {
 
 static size_t get_number(const uint8_t *at) { return at[0] + 256u * at[1] + 65536u * at[2] + 16777216u * (size_t)at[3]; }
 
-/* The pool ends with 26 names of 12 letters, the first ten of which are an S900 name; so the last name stands at the pool's edge. */
+/* The pool ends with 26 names of 12 letters, the first ten of which are an S900 name, A to M in both cases; so the last name stands at the pool's edge. */
 static void make_pool(void) {
     for (int i = 0; i < NAMES; i++)
         pool[i] = (uint8_t)next_random();
     for (int i = 0; i < 26 * 12; i++)
-        pool[NAMES + i] = i % 12 ? ' ' : (uint8_t)('A' + i / 12);
+        pool[NAMES + i] = i % 12 ? ' ' : (uint8_t)((i / 12 % 2 ? 'a' : 'A') + i / 24);
 }
 
 static void make_entry(const shape *s, uint8_t *e) {

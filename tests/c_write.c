@@ -31,12 +31,21 @@ static size_t free_blocks(const disk *d) {
 
 /* The names made here have letters and spaces, and now and then one sign. */
 static bool legal_name(const disk *d, const char *name) {
-    return strlen(name) == (size_t)d->s->letters && (d->s->kind == 900 || !strchr(name, '!'));
+    return strlen(name) == (size_t)d->s->letters && (d->s->kind == 900 || !strpbrk(name, "!@[`{"));
+}
+
+/* A name as the disk keeps it: an S1000's in capitals. */
+static void keep_name(const disk *d, const char *name, char *kept) {
+    size_t length = strlen(name);
+    for (size_t i = 0; i <= length; i++)
+        kept[i] = d->s->kind == 1000 && name[i] >= 'a' && name[i] <= 'z' ? (char)(name[i] - 32) : name[i];
 }
 
 static int slot_of(const disk *d, const char *name) {
+    char kept[13];
+    keep_name(d, name, kept);
     for (int k = 0; k < 64; k++)
-        if (d->files[k].used && strcmp(d->files[k].name, name) == 0)
+        if (d->files[k].used && strcmp(d->files[k].name, kept) == 0)
             return k;
     return -1;
 }
@@ -51,7 +60,7 @@ static int empty_slot(const disk *d) {
 static void record_file(disk *d, int slot, const char *name, uint8_t type, const uint8_t *content, size_t length) {
     file *to = &d->files[slot];
     to->used = true;
-    snprintf(to->name, sizeof to->name, "%s", name);
+    keep_name(d, name, to->name);
     to->type = type;
     to->length = length;
     to->content = malloc(length);
@@ -220,15 +229,15 @@ static void finish(disk *d) {
     release(d->image, d->n);
 }
 
-/* A name of the kind's length, or nearly. */
+/* A name of the kind's length, or nearly; its letters are of either case. */
 static void random_name(const disk *d, char *name) {
     size_t letters = (size_t)d->s->letters - (next_random() % 40 == 0);
     memset(name, ' ', letters);
     name[letters] = 0;
-    name[0] = (char)('A' + next_random() % 26);
-    name[1] = (char)('A' + next_random() % 5);
+    name[0] = (char)('A' + next_random() % 26 + (next_random() % 3 ? 0 : 32));
+    name[1] = (char)('A' + next_random() % 5 + (next_random() % 3 ? 0 : 32));
     if (next_random() % 50 == 0)
-        name[2] = d->s->kind == 900 ? '~' : '!';
+        name[2] = d->s->kind == 900 ? '~' : "!@[`{"[next_random() % 5];
 }
 
 static size_t random_length(const disk *d) {

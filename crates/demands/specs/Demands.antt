@@ -5,11 +5,12 @@
 --   Kept (rules/specs/Demand), Pages to Joins (record/specs/Download): demand 3; TouchedBy (rules/specs/Outside): what a call may change;
 --   unpackOf and packOf (samples/specs/Samples), SampleRules (samples/specs/Rules), programOf and ProgramRules (program/specs/Program): the files;
 --   toldOf and turnIn (skilletjay/specs/Told): C's results; listingOf (listing/specs/Listing): the listing program's text;
---   lastBlock (rules/specs/Mark), Other and Reaches (map/specs/Values): request one.
+--   lastBlock (rules/specs/Mark), Other and Reaches (map/specs/Values): request one;
+--   akaiiOf, asciiOf and capital (names/specs/Akaii), capitals (names/specs/Names), keptFile (record/specs/Record), inCapitals (record/specs/Spelling): request two.
 -- That the code does so is what each function's contract says, and those are proved with it. Assumes nothing.
 use mathlib.Core.Path.{_≡_, refl}
 use mathlib.Core.Bool.{true, false}
-use mathlib.Core.List.{List, _++_}
+use mathlib.Core.List.{List, [], _++_, map}
 use mathlib.Core.Option.{none, some}
 use mathlib.Core.Logic.{_↔_}
 use Prim.Native.Nat.{ℕ, _+_, _-_, _≤_, _<_, min}
@@ -32,16 +33,21 @@ use Rattle.layout.specs.declared.Density.{Density}
 use Rattle.layout.specs.Layouts.{layoutOf, lengthOf, blocksOf, firstOf, mapOffset, blockOffset}
 use Rattle.layout.specs.Right as right
 use Rattle.layout.specs.Right.{layout-right}
-use Rattle.names.specs.Names.{legalName, legalType}
+use Rattle.names.specs.declared.Converted.the-variants.{Byte}
+use Rattle.names.specs.Akaii.{akaiiOf, asciiOf, capital}
+use Rattle.names.specs.Akaii as akaii
+use Rattle.names.specs.Names.{legalName, legalType, areaOf, nameOf, capitals}
+use Rattle.names.specs.NameLaws as names
 use Rattle.map.specs.Map.{mapAt, freeCount, Data, chain, Astray, Miscounted}
 use Rattle.map.specs.Values as values
 use Rattle.map.specs.Values.{Other, Reaches}
 use Rattle.view.specs.Disk.{View, File, takes, Owns}
 use Rattle.view.specs.Broken.{Breaks, owner}
-use Rattle.image.specs.Image.{filesIn, DiskRules}
-use Rattle.record.specs.Record.{Shape, Files, Call, check, list, page, refused, refusedBy, paged, Turn, fileCount, slotOf, emptySlot, free, fileAt, refuse, judgeName, judgePut, stepFiles}
+use Rattle.image.specs.Image.{filesIn, DiskRules, removeImage}
+use Rattle.record.specs.Record.{Shape, Files, Call, check, list, find, page, put, remove, refused, refusedBy, valued, paged, done, Turn, keptFile, fileCount, slotOf, emptySlot, free, fileAt, refuse, judgeName, judgePut, stepFiles}
 use Rattle.record.specs.Order.{roomFor}
 use Rattle.record.specs.Order as order
+use Rattle.record.specs.Spelling.{inCapitals}
 use Rattle.rules.specs.declared.Checked.the-variants.{Accepted, Refused}
 use Rattle.rules.specs.Check.{checkOf, lent, came, callOf, Made}
 use Rattle.rules.specs.Accepted as accepted
@@ -59,6 +65,7 @@ use Rattle.rules.specs.Outside as outside
 use Rattle.rules.specs.Outside.{TouchedBy}
 use Rattle.rules.specs.Mark as mark
 use Rattle.rules.specs.Mark.{lastBlock}
+use Rattle.rules.specs.Spelling as spelling
 use Rattle.session.specs.Script.{runOf, entries}
 use Rattle.session.specs.Turns as scripts
 use Rattle.session.specs.Turns.{turns, leave}
@@ -278,3 +285,60 @@ old-mark-last d m links start r e = values.other-last (layoutOf S1000 d) m links
 pub old-mark-stray : (d : Density) (v : View) (block : ℕ) → Data (layoutOf S1000 d) block → v .map block ≡ 19152 → ((s : ℕ) → Owns (layoutOf S1000 d) v s block → ⊥)
     → Breaks (layoutOf S1000 d) v owner 9 block
 old-mark-stray d v block inside e unowned = (refl, inside, λ z. omega arith, unowned)
+
+-- ---- Request two: names may be typed in small letters on S1000 disks
+
+-- A code's byte has that code, as before; a byte's code is its capital's, so there and back is the capital.
+pub code-back : (code byte : ℕ) → asciiOf code ≡ Byte byte → akaiiOf byte ≡ Byte code
+code-back = akaii.ascii-back
+
+pub byte-folded : (byte : ℕ) → akaiiOf (capital byte) ≡ akaiiOf byte
+byte-folded = akaii.akaii-capital
+
+pub byte-back : (byte code : ℕ) → akaiiOf byte ≡ Byte code → asciiOf code ≡ Byte (capital byte)
+byte-back = akaii.akaii-back
+
+-- The capitals of a name: on S1000 disks byte by byte, on S900 disks the name itself.
+pub s1000-capitals : (d : Density) (name : List ℕ) → capitals (layoutOf S1000 d) name ≡ map capital name
+unfolding capitals
+s1000-capitals d name = refl
+
+pub s900-own-case : (d : Density) (name : List ℕ) → capitals (layoutOf S900 d) name ≡ name
+s900-own-case d = names.capitals-own (layoutOf S900 d) refl
+
+pub capitals-once : (k : Kind) (d : Density) (name : List ℕ) → capitals (layoutOf k d) (capitals (layoutOf k d) name) ≡ capitals (layoutOf k d) name
+capitals-once k d = names.capitals-twice (layoutOf k d)
+
+pub capitals-legal : (k : Kind) (d : Density) (name : List ℕ) → legalName (layoutOf k d) (capitals (layoutOf k d) name) ≡ legalName (layoutOf k d) name
+capitals-legal k d = names.capitals-legal (layoutOf k d)
+
+-- There and back is the capitalised name.
+pub name-back : (k : Kind) (d : Density) (name : List ℕ) → legalName (layoutOf k d) name ≡ true → nameOf (layoutOf k d) (areaOf (layoutOf k d) name) ≡ capitals (layoutOf k d) name
+name-back k d = names.name-back (layoutOf k d) (layout-right k d)
+
+-- Two spellings that fold alike are one name: calls that differ in nothing else come to the same, in answer, output and image.
+pub one-name : (k : Kind) (d : Density) (f n : ℕ) (img : List ℕ) → checkOf img ≡ Accepted k d f n → (c e : Call) → inCapitals (layoutOf k d) c ≡ inCapitals (layoutOf k d) e → callOf img c ≡ callOf img e
+one-name = spelling.one-name
+
+-- Capitals are kept: by a put, and so by every file on a disk; list gives them.
+pub put-keeps-capitals : (k : Kind) (d : Density) (f n : ℕ) (img : List ℕ) → checkOf img ≡ Accepted k d f n → (name : List ℕ) (type : ℕ) (content : List ℕ) (slot : ℕ)
+    → callOf img (put name type content) .answer ≡ valued slot → filesIn (layoutOf k d) (callOf img (put name type content) .state) slot ≡ some (keptFile (layoutOf k d) name type content)
+put-keeps-capitals = spelling.put-keeps
+
+pub names-in-capitals : (k : Kind) (d : Density) (f n : ℕ) (img : List ℕ) → checkOf img ≡ Accepted k d f n → (slot : ℕ) (file : File) → filesIn (layoutOf k d) img slot ≡ some file
+    → capitals (layoutOf k d) (file .name) ≡ file .name
+names-in-capitals = spelling.kept-name
+
+-- Find, put and remove follow: every spelling of a file's name finds it, is taken, and removes it.
+pub spelling-found : (k : Kind) (d : Density) (f n : ℕ) (img : List ℕ) → checkOf img ≡ Accepted k d f n → (slot : ℕ) (file : File) → filesIn (layoutOf k d) img slot ≡ some file
+    → (name : List ℕ) → capitals (layoutOf k d) name ≡ file .name → callOf img (find name) ≡ came (valued slot) [] img
+spelling-found = spelling.found
+
+pub spelling-taken : (k : Kind) (d : Density) (f n : ℕ) (img : List ℕ) → checkOf img ≡ Accepted k d f n → (slot : ℕ) (file : File) → filesIn (layoutOf k d) img slot ≡ some file
+    → (name : List ℕ) → capitals (layoutOf k d) name ≡ file .name → (type : ℕ) (content : List ℕ) → legalType (layoutOf k d) type ≡ true → (length content ≡ 0 → ⊥)
+    → callOf img (put name type content) ≡ came (refused 12 slot) [] img
+spelling-taken = spelling.taken
+
+pub spelling-removed : (k : Kind) (d : Density) (f n : ℕ) (img : List ℕ) → checkOf img ≡ Accepted k d f n → (slot : ℕ) (file : File) → filesIn (layoutOf k d) img slot ≡ some file
+    → (name : List ℕ) → capitals (layoutOf k d) name ≡ file .name → callOf img (remove name) ≡ came done [] (removeImage (layoutOf k d) img slot)
+spelling-removed = spelling.removed

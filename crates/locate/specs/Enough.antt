@@ -125,7 +125,7 @@ module _ (x y : List ℕ) (same : SameHead x y) where
         let e-y = ap used (entry-same s h) ∙ e in
         rw (file-used l y s h e-y, file-used l x s h e, file-length l y s right rules-y h e-y, file-length l x s right rules-x h e, entry-same s h) refl
 
-    named-by : (name : List ℕ) (s : ℕ) → s < l .slots → (u : Bool) → used (viewOf l (bytes x) .entry s) ≡ u → named name (filesIn l y s) ≡ named name (filesIn l x s)
+    named-by : (name : List ℕ) (s : ℕ) → s < l .slots → (u : Bool) → used (viewOf l (bytes x) .entry s) ≡ u → named l name (filesIn l y s) ≡ named l name (filesIn l x s)
     unfolding filesOf
     named-by name s h false e = rw (lt-ltb s (l .slots) h, ap used (entry-same s h) ∙ e, e) refl
     named-by name s h true e = rw (lt-ltb s (l .slots) h, ap used (entry-same s h) ∙ e, e, entry-same s h) refl
@@ -134,7 +134,7 @@ module _ (x y : List ℕ) (same : SameHead x y) where
     unfolding judgeName slotOf
     judge-same name =
         ap (λ (w : Lowest). refuseIf (not (legalName l name)) 11 (orRefuse 10 w (λ s. Grant s)))
-        (lowest-cong (λ s. named name (filesIn l y s)) (λ s. named name (filesIn l x s)) 0 (l .slots)
+        (lowest-cong (λ s. named l name (filesIn l y s)) (λ s. named l name (filesIn l x s)) 0 (l .slots)
         (λ s p q. named-by name s (omega arith) (used (viewOf l (bytes x) .entry s)) refl))
 
     -- a file's content, where y holds the slot's blocks

@@ -1,4 +1,4 @@
--- A legal name comes back from its area, a legal area from its name, and each is legal where the other is.
+-- A legal name comes back from its area in capitals, a legal area from its name, and each is legal where the other is; a name and its capitals are one name.
 -- Byte by byte, from AKAII's laws where the layout's names are AKAII. Assumes nothing.
 use mathlib.Core.Path.{_≡_, refl, sym, ap, _∙_}
 use mathlib.Core.Bool.{Bool, true, false, true≢false}
@@ -19,8 +19,8 @@ use Rattle.layout.specs.Layouts.{s900, s1000}
 use Rattle.layout.specs.Right.{LayoutRight}
 use Rattle.names.specs.declared.Converted.{Converted}
 use Rattle.names.specs.declared.Converted.the-variants.{Byte, NoImage}
-use Rattle.names.specs.Akaii.{akaiiOf, asciiOf, hasImage, imageOf, akaii-back, ascii-back, ascii-none, ascii-some, code-most}
-use Rattle.names.specs.Names.{storedByte, akaiiByte, asciiByte, givenByte, toDisk, toAscii, padding, legalName, areaOf, legalArea, nameOf}
+use Rattle.names.specs.Akaii.{akaiiOf, asciiOf, hasImage, imageOf, capital, akaii-back, ascii-back, ascii-none, ascii-some, code-most, akaii-capital, capital-twice}
+use Rattle.names.specs.Names.{storedByte, akaiiByte, asciiByte, givenByte, toDisk, toAscii, keptByte, capitals, padding, legalName, areaOf, legalArea, nameOf}
 
 -- ---- one byte
 
@@ -45,10 +45,10 @@ image-byte : (w : Converted) → hasImage w ≡ true → w ≡ Byte (imageOf w)
 image-byte (Byte b) e = refl
 image-byte NoImage e = absurd (true≢false (sym e))
 
--- a byte's image is a legal byte on the disk, and its image is that byte
+-- a byte's image is a legal byte on the disk, and its image is the byte kept
 pub record ToDisk (l : Layout) (a : ℕ) : Type 0 where
   pub legal : storedByte l (toDisk l a) ≡ true
-  pub back : toAscii l (toDisk l a) ≡ a
+  pub back : toAscii l (toDisk l a) ≡ keptByte l a
 
 pub record ToAscii (l : Layout) (c : ℕ) : Type 0 where
   pub legal : givenByte l (toAscii l c) ≡ true
@@ -56,7 +56,7 @@ pub record ToAscii (l : Layout) (c : ℕ) : Type 0 where
 
 module _ (l : Layout) (right : LayoutRight l) where
   to-disk-by : (t : Bool) → l .akaii ≡ t → (a : ℕ) → givenByte l a ≡ true → ToDisk l a
-  unfolding givenByte toDisk toAscii storedByte
+  unfolding givenByte toDisk toAscii storedByte keptByte
   to-disk-by true t a h =
       let e : akaiiOf a ≡ Byte (imageOf (akaiiOf a)) = image-byte (akaiiOf a) (rw t at h) in
       let codes = right .akaii-codes t in
@@ -86,24 +86,82 @@ module _ (l : Layout) (right : LayoutRight l) where
 
 -- ---- all bytes
 
--- bytes that pass f have images that pass g, and these images' images are the bytes
-module _ (f g : ℕ → Bool) (there back : ℕ → ℕ) where
+-- bytes that pass f have images that pass g, and these images' images are the bytes kept
+module _ (f g : ℕ → Bool) (there back kept : ℕ → ℕ) where
   all-there : ((a : ℕ) → f a ≡ true → g (there a) ≡ true) → (xs : List ℕ) → allOf f xs ≡ true → allOf g (map there xs) ≡ true
   unfolding allOf
   all-there h [] e = refl
   all-there h (a ∷ xs) e =
       let p = both-true (f a) (allOf f xs) e in true-both (g (there a)) (allOf g (map there xs)) (h a (p .0)) (all-there h xs (p .1))
 
-  all-back : ((a : ℕ) → f a ≡ true → back (there a) ≡ a) → (xs : List ℕ) → allOf f xs ≡ true → map back (map there xs) ≡ xs
+  all-back : ((a : ℕ) → f a ≡ true → back (there a) ≡ kept a) → (xs : List ℕ) → allOf f xs ≡ true → map back (map there xs) ≡ map kept xs
   unfolding allOf
   all-back h [] e = refl
   all-back h (a ∷ xs) e = let p = both-true (f a) (allOf f xs) e in rw (h a (p .0), all-back h xs (p .1)) refl
+
+-- images one after the other
+map-own : (f : ℕ → ℕ) → ((a : ℕ) → f a ≡ a) → (xs : List ℕ) → map f xs ≡ xs
+map-own f h [] = refl
+map-own f h (a ∷ xs) = rw (h a, map-own f h xs) refl
+
+map-map : (f g k : ℕ → ℕ) → ((a : ℕ) → f (g a) ≡ k a) → (xs : List ℕ) → map f (map g xs) ≡ map k xs
+map-map f g k h [] = refl
+map-map f g k h (a ∷ xs) = rw (h a, map-map f g k h xs) refl
+
+all-map : (f : ℕ → Bool) (g : ℕ → ℕ) → ((a : ℕ) → f (g a) ≡ f a) → (xs : List ℕ) → allOf f (map g xs) ≡ allOf f xs
+unfolding allOf
+all-map f g h [] = refl
+all-map f g h (a ∷ xs) = rw (h a, all-map f g h xs) refl
 
 -- one of the images
 pub getD-map : (f : ℕ → ℕ) (xs : List ℕ) (i : ℕ) → i < length xs → getD (map f xs) i 0 ≡ f (getD xs i 0)
 getD-map f [] i h = absurd (omega arith)
 getD-map f (x ∷ xs) zero h = refl
 getD-map f (x ∷ xs) (suc i) h = getD-map f xs i (omega arith)
+
+-- ---- capitals
+
+module _ (l : Layout) where
+  -- what is the same for a byte and its capital where names are AKAII is the same for a byte and the byte kept
+  kept-same : {A : Type 0} (f : ℕ → A) (a : ℕ) → (l .akaii ≡ true → f (capital a) ≡ f a) → f (keptByte l a) ≡ f a
+  unfolding keptByte
+  kept-same f a h = go (l .akaii) refl
+    where
+      go : (t : Bool) → l .akaii ≡ t → f (keptByte l a) ≡ f a
+      go true t = rw t (h t)
+      go false t = rw t refl
+
+  kept-given : (a : ℕ) → givenByte l (keptByte l a) ≡ givenByte l a
+  unfolding givenByte
+  kept-given a = kept-same (givenByte l) a (λ t. rw t (ap hasImage (akaii-capital a)))
+
+  kept-disk : (a : ℕ) → toDisk l (keptByte l a) ≡ toDisk l a
+  unfolding toDisk
+  kept-disk a = kept-same (toDisk l) a (λ t. rw t (ap imageOf (akaii-capital a)))
+
+  kept-twice : (a : ℕ) → keptByte l (keptByte l a) ≡ keptByte l a
+  unfolding keptByte
+  kept-twice a = kept-same (keptByte l) a (λ t. rw t (capital-twice a))
+
+  -- Capitals are their own.
+  pub capitals-twice : (name : List ℕ) → capitals l (capitals l name) ≡ capitals l name
+  unfolding capitals
+  capitals-twice = map-map (keptByte l) (keptByte l) (keptByte l) kept-twice
+
+  -- A name is legal exactly if its capitals are.
+  pub capitals-legal : (name : List ℕ) → legalName l (capitals l name) ≡ legalName l name
+  unfolding legalName capitals
+  capitals-legal name = rw (length-map name (keptByte l), all-map (givenByte l) (keptByte l) kept-given name) refl
+
+  -- A name and its capitals have one area.
+  pub capitals-area : (name : List ℕ) → areaOf l (capitals l name) ≡ areaOf l name
+  unfolding areaOf capitals
+  capitals-area name = rw (map-map (toDisk l) (keptByte l) (toDisk l) kept-disk name) refl
+
+  -- Names that aren't AKAII are kept as they are given.
+  pub capitals-own : l .akaii ≡ false → (name : List ℕ) → capitals l name ≡ name
+  unfolding capitals keptByte
+  capitals-own t = map-own (keptByte l) (λ a. rw t refl)
 
 -- ---- names and areas
 
@@ -144,12 +202,12 @@ module _ (l : Layout) (right : LayoutRight l) where
     area-legal =
         rw (front, rest)
         (true-both (allOf (storedByte l) (map (toDisk l) name)) (same (padding l) (padding l))
-        (all-there (givenByte l) (storedByte l) (toDisk l) (toAscii l) (λ a h. to-disk l right a h .legal) name (name-bytes name legal)) (same-refl (padding l)))
+        (all-there (givenByte l) (storedByte l) (toDisk l) (toAscii l) (keptByte l) (λ a h. to-disk l right a h .legal) name (name-bytes name legal)) (same-refl (padding l)))
 
-    -- and holds the name
-    pub name-back : nameOf l (areaOf l name) ≡ name
-    unfolding nameOf
-    name-back = rw front (all-back (givenByte l) (storedByte l) (toDisk l) (toAscii l) (λ a h. to-disk l right a h .back) name (name-bytes name legal))
+    -- and holds the name in capitals
+    pub name-back : nameOf l (areaOf l name) ≡ capitals l name
+    unfolding nameOf capitals
+    name-back = rw front (all-back (givenByte l) (storedByte l) (toDisk l) (toAscii l) (keptByte l) (λ a h. to-disk l right a h .back) name (name-bytes name legal))
 
   -- a name's bytes in its area
   pub length-front : (area : List ℕ) → length area ≡ 16 → length (take (l .letters) area) ≡ l .letters
@@ -170,7 +228,7 @@ module _ (l : Layout) (right : LayoutRight l) where
     pub area-back : areaOf l (nameOf l area) ≡ area
     unfolding areaOf nameOf
     area-back =
-        rw (all-back (storedByte l) (givenByte l) (toAscii l) (toDisk l) (λ c h. to-ascii l right c h .back) (take (l .letters) area) (stored .0), ← stored .1)
+        rw (all-back (storedByte l) (givenByte l) (toAscii l) (toDisk l) (λ c. c) (λ c h. to-ascii l right c h .back) (take (l .letters) area) (stored .0), map-own (λ c. c) (λ c. refl) (take (l .letters) area), ← stored .1)
         (take-append-drop (l .letters) area)
 
     -- and its name is legal
@@ -179,4 +237,8 @@ module _ (l : Layout) (right : LayoutRight l) where
     name-legal n =
         true-both (eqb (length (map (toAscii l) (take (l .letters) area))) (l .letters)) (allOf (givenByte l) (map (toAscii l) (take (l .letters) area)))
         (eq-eqb (length (map (toAscii l) (take (l .letters) area))) (l .letters) (length-name area n))
-        (all-there (storedByte l) (givenByte l) (toAscii l) (toDisk l) (λ c h. to-ascii l right c h .legal) (take (l .letters) area) (stored .0))
+        (all-there (storedByte l) (givenByte l) (toAscii l) (toDisk l) (λ c. c) (λ c h. to-ascii l right c h .legal) (take (l .letters) area) (stored .0))
+
+    -- and is in capitals
+    pub name-capitals : length area ≡ 16 → capitals l (nameOf l area) ≡ nameOf l area
+    name-capitals n = sym (name-back (nameOf l area) (name-legal n)) ∙ ap (nameOf l) area-back

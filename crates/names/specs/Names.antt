@@ -8,7 +8,7 @@ use lib.Dec.{eqb}
 use Rattle.laws.specs.Truth.{pick, both, within}
 use Rattle.laws.specs.Lists.{allOf, same}
 use Rattle.layout.specs.declared.Layout.{Layout}
-use Rattle.names.specs.Akaii.{akaiiOf, asciiOf, hasImage, imageOf}
+use Rattle.names.specs.Akaii.{akaiiOf, asciiOf, hasImage, imageOf, capital}
 
 -- A legal byte of a name on the disk.
 unfoldable pub storedByte : Layout → ℕ → Bool
@@ -36,6 +36,16 @@ toDisk l a = pick (l .akaii) (imageOf (akaiiOf a)) a
 unfoldable pub toAscii : Layout → ℕ → ℕ
 unfolding asciiOf
 toAscii l c = pick (l .akaii) (imageOf (asciiOf c)) c
+
+-- A name's byte as it is kept: the capital where names are AKAII, else as it was given.
+unfoldable pub keptByte : Layout → ℕ → ℕ
+unfolding capital
+keptByte l a = pick (l .akaii) (capital a) a
+
+-- A name as it is kept (document 02, request two): two names that have the same capitals are one.
+unfoldable pub capitals : Layout → List ℕ → List ℕ
+unfolding keptByte
+capitals l name = map (keptByte l) name
 
 -- What follows the name in its area.
 unfoldable pub padding : Layout → List ℕ

@@ -16,13 +16,14 @@ pub enum Converted {
     NoImage,
 }
 
-// The AKAII code of an ASCII byte.
+// The AKAII code of an ASCII byte; a small letter has its capital's.
 pub fn to_akaii(ascii: u8) -> Converted
     ensures { λ r. ⌜ r ≡ akaiiOf ascii ⌝ }
 {
     match ascii {
         48..=57 => Converted::Byte(ascii - 48),
         65..=90 => Converted::Byte(ascii - 54),
+        97..=122 => Converted::Byte(ascii - 86),
         32 => Converted::Byte(10),
         35 => Converted::Byte(37),
         43 => Converted::Byte(38),

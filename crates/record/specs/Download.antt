@@ -13,8 +13,9 @@ use lib.Seq.{take-at, take-add, take-all}
 use borrow.Author.Tests.{eqb-true, eq-eqb, lt-ltb, le-ltb}
 use Rattle.laws.specs.Splice.{part}
 use Rattle.laws.specs.Lemmas.Splice.{length-part}
+use Rattle.layout.specs.declared.Layout.{Layout}
 use Rattle.view.specs.Disk.{File}
-use Rattle.record.specs.Record.{Shape, Files, page, remove, Answer, Turn, fileAt, pageOf, stepFiles}
+use Rattle.record.specs.Record.{Shape, Files, page, Removes, Answer, Turn, fileAt, pageOf, stepFiles}
 use Rattle.record.specs.Others.{others}
 
 -- Which of the calls made are a download's own pages.
@@ -47,16 +48,16 @@ Asked slot sum none = Unit {0}
 Asked slot sum (own {t = t} ps) = ((out : List ℕ) × (t .call ≡ page slot sum out)) × Asked slot (sum + t .answer .value) ps
 Asked slot sum (other ps) = Asked slot sum ps
 
--- No call before the last page removes the file of this name.
+-- No call before the last page removes the file.
 abbrev pub Continues : {ts : List Turn} → Pages ts → Type 0
 Continues none = ⊥
 Continues (own ps) = Unit {0}
 Continues (other ps) = Continues ps
 
-abbrev pub Spared : {ts : List Turn} → List ℕ → Pages ts → Type 0
-Spared name none = Unit {0}
-Spared name (own ps) = Spared name ps
-Spared name (other {t = t} ps) = (Continues ps → t .call ≡ remove name → ⊥) × Spared name ps
+abbrev pub Spared : {ts : List Turn} → Layout → File → Pages ts → Type 0
+Spared l f none = Unit {0}
+Spared l f (own ps) = Spared l f ps
+Spared l f (other {t = t} ps) = (Continues ps → Removes l (t .call) f → ⊥) × Spared l f ps
 
 -- What is claimed of the bytes got: they are the content's beginning, as long as the counts say, and the whole content exactly if the last
 -- page said the end.
@@ -118,7 +119,7 @@ module _ (shape : Shape) (slot : ℕ) (inside : slot < shape .layout .slots) (f 
       let e = ap (stepFiles shape files) c ∙ page-is files there (g .sum) out (b .short) in
       (rw (a, o, e) (page-begun files g out b), rw e there)
 
-  joined : {ts : List Turn} (ps : Pages ts) (files : Files) (g : Got) → Answered shape files ts → files slot ≡ some f → Asked slot (g .sum) ps → Spared (f .name) ps → Paged (f .content) g
+  joined : {ts : List Turn} (ps : Pages ts) (files : Files) (g : Got) → Answered shape files ts → files slot ≡ some f → Asked slot (g .sum) ps → Spared (shape .layout) f ps → Paged (f .content) g
       → Paged (f .content) (got g ps)
   unfolding Answered
   joined none files g r there asked spared p = p
@@ -127,7 +128,7 @@ module _ (shape : Shape) (slot : ℕ) (inside : slot < shape .layout .slots) (f 
       joined ps (stepFiles shape files (t .call) .state) (withPage g (t .answer) (t .output)) (r .2) (w .1) (asked .1) spared (w .0)
   joined (other {t = t} ps) files g r there asked spared p = go (joined ps (stepFiles shape files (t .call) .state) g (r .2)) (ends g ps)
     where
-      go : (stepFiles shape files (t .call) .state slot ≡ some f → Asked slot (g .sum) ps → Spared (f .name) ps → Paged (f .content) g → Paged (f .content) (got g ps)) → Continues ps ⊎ (got g ps ≡ g)
+      go : (stepFiles shape files (t .call) .state slot ≡ some f → Asked slot (g .sum) ps → Spared (shape .layout) f ps → Paged (f .content) g → Paged (f .content) (got g ps)) → Continues ps ⊎ (got g ps ≡ g)
           → Paged (f .content) (got g ps)
       go ih (inl c) = ih (others shape files slot f there (t .call) (spared .0 c)) asked (spared .1) p
       go ih (inr e) = rw e p
@@ -145,7 +146,7 @@ module _ (shape : Shape) (slot : ℕ) (inside : slot < shape .layout .slots) (f 
 
   -- one page or more, the first at offset 0
   pub download : (t : Turn) {ts : List Turn} (ps : Pages ts) (files : Files) → Answered shape files (t ∷ ts) → files slot ≡ some f
-      → Asked slot 0 (own {t = t} ps) → Spared (f .name) ps → Joins (f .content) (got nothing (own {t = t} ps))
+      → Asked slot 0 (own {t = t} ps) → Spared (shape .layout) f ps → Joins (f .content) (got nothing (own {t = t} ps))
   unfolding Answered
   download t ps files r there asked spared =
       let w = page-made files nothing t (asked .0 .0) there (record { bytes = refl; short = omega arith }) (asked .0 .1) (r .0) (r .1) in

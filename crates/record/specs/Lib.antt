@@ -4,4 +4,5 @@ pub mod Step
 pub mod Others
 pub mod Outside
 pub mod Download
+pub mod Spelling
 pub mod Lemmas

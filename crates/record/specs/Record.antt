@@ -1,5 +1,6 @@
 -- Demand 3's plain record (document 01, "Calls on an accepted disk"): what each call answers and what it changes, judged on names,
 -- types and contents alone. It is fed a call's arguments and never the image. Assumes nothing.
+use mathlib.Core.Path.{_≡_}
 use mathlib.Core.Bool.{Bool, true, false, not}
 use mathlib.Core.List.{List, [], _++_}
 use mathlib.Core.Option.{Option, none, some}
@@ -19,7 +20,7 @@ use Rattle.layout.specs.declared.Density.the-variants.{Low, High}
 use Rattle.layout.specs.declared.Layout.{Layout}
 use Rattle.layout.specs.Layouts.{layoutOf}
 use Rattle.blocks.specs.Blocks.{blocksFor}
-use Rattle.names.specs.Names.{legalName, legalType}
+use Rattle.names.specs.Names.{legalName, legalType, capitals}
 use Rattle.view.specs.Disk.{File, takes}
 use Rattle.laws.specs.declared.Refusal.{Refusal}
 use Rattle.laws.specs.Refusals.{refusalAt}
@@ -145,9 +146,21 @@ abbrev pub orRefuse : ℕ → Lowest → (ℕ → Judged) → Judged
 orRefuse n (At s) next = next s
 orRefuse n Nowhere next = refuse n 0
 
-abbrev pub named : List ℕ → Option File → Bool
-named name none = false
-named name (some f) = same name (f .name)
+-- A name as a caller gives it is a file's if its capitals are the file's name (document 02, request two); find, put and remove ask nothing else of names.
+abbrev pub isNamed : Layout → List ℕ → File → Bool
+isNamed l name f = same (capitals l name) (f .name)
+
+abbrev pub named : Layout → List ℕ → Option File → Bool
+named l name none = false
+named l name (some f) = isNamed l name f
+
+-- The call removes this file, if a slot holds it: the one way in which demand 3 lets a call name a file that was there.
+abbrev pub Removes : Layout → Call → File → Type 0
+Removes l c f = (name : List ℕ) × (c ≡ remove name) × (isNamed l name f ≡ true)
+
+-- The file that a put leaves: the record keeps capitals.
+abbrev pub keptFile : Layout → List ℕ → ℕ → List ℕ → File
+keptFile l name type content = record { name = capitals l name; type = type; content = content }
 
 abbrev pub isEmpty : Option File → Bool
 isEmpty none = true
@@ -160,8 +173,8 @@ replaced files s f t = pick (eqb t s) f (files t)
 module _ (l : Layout) (files : Files) where
   -- the slot that has the name
   unfoldable pub slotOf : List ℕ → Lowest
-  unfolding lowest same
-  slotOf name = lowest (λ s. named name (files s)) 0 (l .slots)
+  unfolding lowest same capitals
+  slotOf name = lowest (λ s. named l name (files s)) 0 (l .slots)
 
   -- the lowest empty slot
   unfoldable pub emptySlot : Lowest
@@ -239,5 +252,5 @@ stepFiles shape files (list s) = listing files (fileAt (shape .layout) files s)
 stepFiles shape files (find name) = finding files (judgeName (shape .layout) files name)
 stepFiles shape files (page s offset out) = paging files (fileAt (shape .layout) files s) offset out
 stepFiles shape files (put name type content) =
-    putting files (λ s. replaced files s (some (record { name = name; type = type; content = content }))) (judgePut (shape .layout) files name type content)
+    putting files (λ s. replaced files s (some (keptFile (shape .layout) name type content))) (judgePut (shape .layout) files name type content)
 stepFiles shape files (remove name) = removing files (λ s. replaced files s none) (judgeName (shape .layout) files name)

@@ -16,8 +16,6 @@ use Rattle.laws.specs.Scan.{lowest, total}
 use Rattle.laws.specs.Lemmas.Scan.{nowhere→, →nowhere}
 use Rattle.laws.specs.declared.Lowest.{Lowest}
 use Rattle.laws.specs.declared.Lowest.the-variants.{At, Nowhere}
-use Rattle.laws.specs.Lists.{same}
-use Rattle.laws.specs.Lemmas.Lists.{same-true}
 use Rattle.laws.specs.Splice.{part}
 use Rattle.laws.specs.Reader.{bytes}
 use Rattle.layout.specs.declared.Kind.{Kind}
@@ -29,10 +27,10 @@ use Rattle.layout.specs.Right.{layout-right}
 use Rattle.blocks.specs.Blocks.{blocksFor}
 use Rattle.names.specs.Names.{legalName, legalType}
 use Rattle.map.specs.Map.{mapAt, freeCount}
-use Rattle.view.specs.Disk.{File, takes}
-use Rattle.view.specs.Lemmas.Kept.{file-out}
+use Rattle.view.specs.Disk.{File, takes, used, fileOf, Used}
+use Rattle.view.specs.Lemmas.Kept.{file-at, file-out}
 use Rattle.image.specs.Image.{viewOf, filesIn, DiskRules}
-use Rattle.record.specs.Record.{shapeOf, Files, Call, check, page, paged, put, remove, Answer, Turn, numberIn, Outcome, refused, refuseIf, named, isEmpty, slotOf, emptySlot, judgePut, putting, stepFiles}
+use Rattle.record.specs.Record.{shapeOf, Files, Call, check, page, paged, put, remove, Answer, Turn, numberIn, Outcome, refused, refuseIf, isNamed, named, Removes, isEmpty, slotOf, emptySlot, judgePut, putting, stepFiles}
 use Rattle.record.specs.declared.Judged.{Judged}
 use Rattle.record.specs.declared.Judged.the-variants.{Refuse, Grant}
 use Rattle.record.specs.Order.{roomFor, order-room}
@@ -63,16 +61,16 @@ pub record Kept (k : Kind) (d : Density) (before : List ℕ) (held : Files) (t :
   pub accepted : checkOf (t .after) ≡ acceptedAs k d (t .after)
   pub files : (s : ℕ) → filesIn (layoutOf k d) (t .after) s ≡ stepFiles (shapeOf k d) held (t .call) .state s
   -- a file that the call doesn't remove keeps slot, name, type and content
-  pub others : (s : ℕ) (file : File) → filesIn (layoutOf k d) before s ≡ some file → (t .call ≡ remove (file .name) → ⊥) → filesIn (layoutOf k d) (t .after) s ≡ some file
+  pub others : (s : ℕ) (file : File) → filesIn (layoutOf k d) before s ≡ some file → (Removes (layoutOf k d) (t .call) file → ⊥) → filesIn (layoutOf k d) (t .after) s ≡ some file
   -- the free blocks, counted in the map, and every file's length rounded up to blocks make the data area
   pub free : freeCount (layoutOf k d) (mapAt (bytes (t .after))) + total (λ s. takes (filesIn (layoutOf k d) (t .after) s)) 0 (layoutOf k d .slots) ≡ blocksOf d - firstOf d
-  -- a put with a legal type, a legal new name, some content and an empty slot is refused for room ↔ it needs more blocks than are free
+  -- a put with a legal type, a legal name by which no file would be removed, some content and an empty slot is refused for room ↔ it needs more blocks than are free
   pub room : (name : List ℕ) (type : ℕ) (content : List ℕ) → t .call ≡ put name type content → legalType (layoutOf k d) type ≡ true → legalName (layoutOf k d) name ≡ true
-      → ((s : ℕ) (file : File) → filesIn (layoutOf k d) before s ≡ some file → name ≡ file .name → ⊥) → (length content ≡ 0 → ⊥)
+      → ((s : ℕ) (file : File) → filesIn (layoutOf k d) before s ≡ some file → Removes (layoutOf k d) (remove name) file → ⊥) → (length content ≡ 0 → ⊥)
       → (s : ℕ) → s < layoutOf k d .slots → filesIn (layoutOf k d) before s ≡ none
       → (t .answer ≡ refused 15 0) ↔ (freeCount (layoutOf k d) (mapAt (bytes before)) < blocksFor (length content))
   -- a download that begins with it joins to a beginning of the file, and to all of it ↔ its last page says the end, if none removes the file before that
-  pub download : (slot : ℕ) (file : File) → filesIn (layoutOf k d) before slot ≡ some file → (ps : Pages ts) → Asked slot 0 (own {t = t} ps) → Spared (file .name) ps
+  pub download : (slot : ℕ) (file : File) → filesIn (layoutOf k d) before slot ≡ some file → (ps : Pages ts) → Asked slot 0 (own {t = t} ps) → Spared (layoutOf k d) file ps
       → Joins (file .content) (got nothing (own {t = t} ps))
 
 -- After each call of a sequence, refused ones included.
@@ -94,7 +92,7 @@ state-is k d img c r = ap (λ (x : Outcome (List ℕ)). x .state) (call-is k d i
 pub rules-after : (k : Kind) (d : Density) (img : List ℕ) (c : Call) → DiskRules (layoutOf k d) img → DiskRules (layoutOf k d) (callOf img c .state)
 rules-after k d img c r = rw (state-is k d img c r) (step (shapeOf k d) (layout-right k d) img r c .rules)
 
-files-after : (k : Kind) (d : Density) (img : List ℕ) (c : Call) → DiskRules (layoutOf k d) img
+pub files-after : (k : Kind) (d : Density) (img : List ℕ) (c : Call) → DiskRules (layoutOf k d) img
     → (t : ℕ) → filesIn (layoutOf k d) (callOf img c .state) t ≡ stepFiles (shapeOf k d) (filesIn (layoutOf k d) img) c .state t
 files-after k d img c r t =
     ap (λ (x : List ℕ). filesIn (layoutOf k d) x t) (state-is k d img c r) ∙ step (shapeOf k d) (layout-right k d) img r c .files t
@@ -118,6 +116,17 @@ slot-inside l img s file e = go (decLt s (l .slots))
     go : Dec (s < l .slots) → s < l .slots
     go (yes h) = h
     go (no h) = let z : none ≡ some file = sym (file-out l (viewOf l (bytes img)) s (omega arith)) ∙ e in absurd (let o : _≡_ {A = ℕ} 0 1 = cc in omega arith)
+
+-- a slot that holds a file is used
+pub file-used : (l : Layout) (img : List ℕ) (s : ℕ) (file : File) → filesIn l img s ≡ some file → Used l (viewOf l (bytes img)) s
+unfolding fileOf
+file-used l img s file e = (slot-inside l img s file e, go (used (viewOf l (bytes img) .entry s)) refl)
+  where
+    go : (t : Bool) → used (viewOf l (bytes img) .entry s) ≡ t → used (viewOf l (bytes img) .entry s) ≡ true
+    go true u = u
+    go false u =
+        let z : none ≡ some file = (rw u refl) ∙ sym (file-at l (viewOf l (bytes img)) s (slot-inside l img s file e)) ∙ e in
+        absurd (let o : _≡_ {A = ℕ} 0 1 = cc in omega arith)
 
 -- Pages are the file's bytes (demand 2): as many as the output holds and the file has left, and the end is reached ↔ none is left after them.
 pub page-bytes : (k : Kind) (d : Density) (f n : ℕ) (img : List ℕ) → checkOf img ≡ Accepted k d f n → (slot : ℕ) (file : File) → filesIn (layoutOf k d) img slot ≡ some file
@@ -159,13 +168,13 @@ module _ (k : Kind) (d : Density) (f n : ℕ) (img : List ℕ) (yes : checkOf im
   abbrev files : Files
   files = filesIn l img
 
-  no-slot : ((t : ℕ) (file : File) → files t ≡ some file → name ≡ file .name → ⊥) → slotOf l files name ≡ Nowhere
+  no-slot : ((t : ℕ) (file : File) → files t ≡ some file → Removes l (remove name) file → ⊥) → slotOf l files name ≡ Nowhere
   unfolding slotOf
-  no-slot new = →nowhere (λ t. named name (files t)) 0 (l .slots) (λ t p q. go t (files t) refl)
+  no-slot new = →nowhere (λ t. named l name (files t)) 0 (l .slots) (λ t p q. go t (files t) refl)
     where
-      go : (t : ℕ) (w : Option File) → files t ≡ w → named name (files t) ≡ false
-      go t none e = ap (named name) e
-      go t (some file) e = ap (named name) e ∙ false-if (same name (file .name)) (λ x. new t file e (same-true name (file .name) x))
+      go : (t : ℕ) (w : Option File) → files t ≡ w → named l name (files t) ≡ false
+      go t none e = ap (named l name) e
+      go t (some file) e = ap (named l name) e ∙ false-if (isNamed l name file) (λ x. new t file e (name, refl, x))
 
   some-slot : (s : ℕ) → s < l .slots → files s ≡ none → (r : ℕ) × (emptySlot l files ≡ At r)
   unfolding emptySlot
@@ -188,7 +197,7 @@ module _ (k : Kind) (d : Density) (f n : ℕ) (img : List ℕ) (yes : checkOf im
   put-answer (Grant s) e = ap (λ (x : Outcome (List ℕ)). x .answer) (call-is k d img (put name type content) (accepted-rules k d f n img yes)) ∙ rw e refl
 
   -- such a put is refused for room ↔ its blocks outnumber the free ones
-  room : legalType l type ≡ true → legalName l name ≡ true → ((t : ℕ) (file : File) → files t ≡ some file → name ≡ file .name → ⊥) → (length content ≡ 0 → ⊥)
+  room : legalType l type ≡ true → legalName l name ≡ true → ((t : ℕ) (file : File) → files t ≡ some file → Removes l (remove name) file → ⊥) → (length content ≡ 0 → ⊥)
       → (s : ℕ) → s < l .slots → files s ≡ none → (callOf img (put name type content) .answer ≡ refused 15 0) ↔ (n < blocksFor (length content))
   room type-legal name-legal new some-content s inside empty =
       let slot = some-slot s inside empty in

@@ -6,5 +6,6 @@ pub mod Demand
 pub mod Refused
 pub mod Outside
 pub mod Mark
+pub mod Spelling
 pub mod Small
 pub mod Lemmas

@@ -1,13 +1,11 @@
 -- The end mark on an accepted disk (document 01, "The disk"; its value on S1000 disks is document 02's, request one): the last block of every file holds it, in
 -- reading and after every call; and no data block holds a value that is neither 0, nor a link, nor the mark. By the disk rules. Assumes nothing.
-use mathlib.Core.Path.{_≡_, refl, sym, _∙_}
-use mathlib.Core.Bool.{Bool, true, false}
+use mathlib.Core.Path.{_≡_}
 use mathlib.Core.List.{List}
 use mathlib.Core.Logic.{_⊎_, inl, inr}
-use mathlib.Core.Option.{none, some}
+use mathlib.Core.Option.{some}
 use Prim.Native.Nat.{ℕ}
 use native.Mathlib.Decide.{ℕ-discrete}
-use native.Mathlib.Omega.{arith}
 use lib.ListN.{getD}
 use Rattle.laws.specs.Reader.{bytes}
 use Rattle.layout.specs.declared.Kind.{Kind}
@@ -17,29 +15,17 @@ use Rattle.layout.specs.Layouts.{layoutOf}
 use Rattle.blocks.specs.Blocks.{linksFor}
 use Rattle.map.specs.Map.{mapAt, Data}
 use Rattle.map.specs.Values.{Other, chain-value, last-value}
-use Rattle.view.specs.Disk.{File, used, entryChain, fileOf, Used}
-use Rattle.view.specs.Lemmas.Kept.{file-at}
+use Rattle.view.specs.Disk.{File, entryChain}
 use Rattle.image.specs.Image.{viewOf, filesIn}
 use Rattle.record.specs.Record.{Call}
 use Rattle.rules.specs.declared.Checked.the-variants.{Accepted}
 use Rattle.rules.specs.Check.{checkOf, callOf}
 use Rattle.rules.specs.Accepted.{accepted-rules}
-use Rattle.rules.specs.Demand.{rules-after, slot-inside}
+use Rattle.rules.specs.Demand.{rules-after, file-used}
 
 -- The last block of a slot's chain.
 abbrev pub lastBlock : Layout → List ℕ → ℕ → ℕ
 lastBlock l img s = let e = viewOf l (bytes img) .entry s in getD (entryChain (mapAt (bytes img)) e) (linksFor (e .size)) 0
-
--- a slot that holds a file is used
-file-used : (l : Layout) (img : List ℕ) (s : ℕ) (file : File) → filesIn l img s ≡ some file → Used l (viewOf l (bytes img)) s
-unfolding fileOf
-file-used l img s file e = (slot-inside l img s file e, go (used (viewOf l (bytes img) .entry s)) refl)
-  where
-    go : (t : Bool) → used (viewOf l (bytes img) .entry s) ≡ t → used (viewOf l (bytes img) .entry s) ≡ true
-    go true u = u
-    go false u =
-        let z : none ≡ some file = (rw u refl) ∙ sym (file-at l (viewOf l (bytes img)) s (slot-inside l img s file e)) ∙ e in
-        absurd (let o : _≡_ {A = ℕ} 0 1 = cc in omega arith)
 
 -- After any call on an accepted image, the check and other calls that change nothing included, the last block of every file holds the end mark.
 pub ends-on-mark : (k : Kind) (d : Density) (f n : ℕ) (img : List ℕ) → checkOf img ≡ Accepted k d f n → (c : Call) (slot : ℕ) (file : File)

@@ -29,7 +29,7 @@ use Rattle.laws.specs.Refusals.{refusalAt}
 use Rattle.view.specs.Disk.{View, File, takes}
 use Rattle.view.specs.Broken.{Rule, system, legal, single, linked, apart, owner, Breaks}
 use Rattle.image.specs.Image.{viewOf, filesIn, DiskRules}
-use Rattle.record.specs.Record.{shapeOf, Files, Call, check, list, find, page, put, remove, Answer, refusedBy, refused, gives, refuseIf, refuseAt, orRefuse, replaced, slotOf, emptySlot, isEmpty, named, fileCount, free, judgeName, judgePut, fileAt, listing, finding, putting, removing, paging, stepFiles}
+use Rattle.record.specs.Record.{shapeOf, Files, Call, check, list, find, page, put, remove, Answer, refusedBy, refused, gives, refuseIf, refuseAt, orRefuse, replaced, slotOf, emptySlot, isEmpty, named, keptFile, fileCount, free, judgeName, judgePut, fileAt, listing, finding, putting, removing, paging, stepFiles}
 use Rattle.record.specs.declared.Judged.{Judged}
 use Rattle.record.specs.declared.Judged.the-variants.{Refuse, Grant}
 use Rattle.record.specs.Lemmas.Update.{area-split}
@@ -110,7 +110,7 @@ else-small n Nowhere next h r = record { some = h .0; most = h .1; place = omega
 module _ (l : Layout) (right : LayoutRight l) (files : Files) (name : List ℕ) where
   slot-small : (p : ℕ) → slotOf l files name ≡ At p → Small p
   unfolding slotOf
-  slot-small p = lowest-small (λ s. named name (files s)) 0 (l .slots) p (let h = slots-small l right in omega arith)
+  slot-small p = lowest-small (λ s. named l name (files s)) 0 (l .slots) p (let h = slots-small l right in omega arith)
 
   empty-small : (p : ℕ) → emptySlot l files ≡ At p → Small p
   unfolding emptySlot
@@ -205,7 +205,7 @@ step-small k d img rules (page s offset out) =
 step-small k d img rules (put name type content) =
     let l = layoutOf k d in
     let files = filesIn l img in
-    putting-small files (λ s. replaced files s (some (record { name = name; type = type; content = content }))) (judgePut l files name type content)
+    putting-small files (λ s. replaced files s (some (keptFile l name type content))) (judgePut l files name type content)
     (put-small l (layout-right k d) files name type content)
 step-small k d img rules (remove name) =
     let l = layoutOf k d in

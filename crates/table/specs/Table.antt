@@ -1,14 +1,16 @@
--- Document 01's worked disks and words, P1 to P13, with the end mark of document 02's request one, and that request's old mark; one table, each row
--- about real bytes.
+-- Document 01's worked disks and words, P1 to P13, with the end mark of document 02's request one; that request's old mark, and request two's names in small
+-- letters; one table, each row about real bytes.
 -- The checker computes each row on the bytes that are set; one lemma takes it to the list. Assumes nothing.
-use mathlib.Core.Path.{_≡_, refl, ap, _∙_, subst, fun-ext}
-use mathlib.Core.List.{List, [], _∷_}
-use Prim.Native.Nat.{ℕ}
+use mathlib.Core.Path.{_≡_, refl, ap, ap₂, _∙_, subst, fun-ext}
+use mathlib.Core.List.{List, [], _∷_, _++_}
+use Prim.Native.Nat.{ℕ, _-_}
 use lib.Dec.{T}
 use lib.IntN.{ℤ, pos, negsuc}
-use lib.ListN.{replicate}
+use lib.ListN.{length, replicate}
 use Rattle.laws.specs.Reader.{bytes}
+use Rattle.layout.specs.declared.Kind.{Kind}
 use Rattle.layout.specs.declared.Kind.the-variants.{S900, S1000}
+use Rattle.layout.specs.declared.Density.{Density}
 use Rattle.layout.specs.declared.Density.the-variants.{Low, High}
 use Rattle.layout.specs.declared.Layout.{Layout}
 use Rattle.layout.specs.Layouts.{layoutOf}
@@ -17,15 +19,17 @@ use Rattle.blocks.specs.Numbers.{number}
 use Rattle.map.specs.Map.{mapAt}
 use Rattle.map.specs.Lemmas.Chains.{Linked}
 use Rattle.view.specs.Disk.{filesOf}
-use Rattle.image.specs.Image.{entryAt, viewOf, filesIn, chosen, putImage}
-use Rattle.record.specs.Record.{Call, put, judgePut}
+use Rattle.image.specs.Image.{entryAt, viewOf, filesIn, DiskRules, chosen, putImage}
+use Rattle.record.specs.Record.{Shape, shapeOf, Files, Call, list, find, put, remove, Answer, Outcome, refused, entry, valued, done, judgePut, stepFiles}
 use Rattle.record.specs.declared.Judged.the-variants.{Grant}
 use Rattle.record.specs.Lemmas.Update.{put-effect}
+use Rattle.record.specs.Step.{stepImage}
 use Rattle.rules.specs.declared.Checked.{Checked}
 use Rattle.laws.specs.Refusals.{refusalAt}
 use Rattle.rules.specs.declared.Checked.the-variants.{Accepted, Refused}
 use Rattle.rules.specs.Check.{checkHead, checkOf, callOf}
 use Rattle.rules.specs.Accepted.{accepted-rules}
+use Rattle.rules.specs.Demand.{call-is, rules-after, files-after}
 use Rattle.words.specs.Words.{packed900}
 use Rattle.table.specs.Sparse.{Sparse, zeros, inside, listOf, reads, list-reads, sparse-check, value, blank, file}
 
@@ -34,16 +38,23 @@ abbrev pub MapHolds : List ℕ → List (ℕ × ℕ) → Type 0
 MapHolds img [] = Unit {0}
 MapHolds img (v ∷ vs) = (mapAt (bytes img) (v .0) ≡ v .1) × MapHolds img vs
 
--- A row: the check of an image of so many bytes; the data of words; or the map after a call on such an image.
+-- The answers of calls, each made on the image that the one before it left.
+abbrev pub answersOf : List ℕ → List Call → List Answer
+answersOf img [] = []
+answersOf img (c ∷ cs) = callOf img c .answer ∷ answersOf (callOf img c .state) cs
+
+-- A row: the check of an image of so many bytes; the data of words; the map after a call on such an image; or the answers of calls on it.
 pub data Row : Type 0 where
   checks : ℕ → Sparse → Checked → Row
   packs : List ℤ → List ℕ → Row
   leaves : ℕ → Sparse → Call → List (ℕ × ℕ) → Row
+  answers : ℕ → Sparse → List Call → List Answer → Row
 
 abbrev pub Holds : Row → Type 0
 Holds (checks n s answer) = checkOf (listOf n s) ≡ answer
 Holds (packs words packed) = packed900 words ≡ packed
 Holds (leaves n s call values) = MapHolds (callOf (listOf n s) call .state) values
+Holds (answers n s calls told) = answersOf (listOf n s) calls ≡ told
 
 abbrev pub All : List Row → Type 0
 All [] = Unit {0}
@@ -58,6 +69,26 @@ low = layoutOf S900 Low
 
 abbrev name : List ℕ
 name = replicate 10 65
+
+-- A name of so many letters: spaces at its end.
+abbrev spaced : ℕ → List ℕ → List ℕ
+spaced letters name = name ++ replicate (letters - length name) 32
+
+-- "Bass c2", "BASS C2", "bAsS C2"; "Bass", "BASS".
+abbrev bass-c2 : List ℕ
+bass-c2 = spaced 12 (66 ∷ 97 ∷ 115 ∷ 115 ∷ 32 ∷ 99 ∷ 50 ∷ [])
+
+abbrev BASS-C2 : List ℕ
+BASS-C2 = spaced 12 (66 ∷ 65 ∷ 83 ∷ 83 ∷ 32 ∷ 67 ∷ 50 ∷ [])
+
+abbrev bAsS-C2 : List ℕ
+bAsS-C2 = spaced 12 (98 ∷ 65 ∷ 115 ∷ 83 ∷ 32 ∷ 67 ∷ 50 ∷ [])
+
+abbrev bass : List ℕ
+bass = spaced 10 (66 ∷ 97 ∷ 115 ∷ 115 ∷ [])
+
+abbrev BASS : List ℕ
+BASS = spaced 10 (66 ∷ 65 ∷ 83 ∷ 83 ∷ [])
 
 abbrev pub rows : List Row
 rows =
@@ -77,15 +108,49 @@ rows =
     ∷ checks 1638400 (file high 0 11 1024 5 (value 5 19152 (blank high))) (Refused (refusalAt 7 0))  -- request one: at the last block
     ∷ checks 1638400 (file high 0 11 1025 5 (value 5 19152 (blank high))) (Refused (refusalAt 6 0))  -- before it
     ∷ checks 1638400 (value 9 19152 (blank high)) (Refused (refusalAt 9 9))  -- where no chain has the block
+    -- request two: on an S1000 disk spellings are one name, kept in capitals; on an S900 disk they are two
+    ∷ answers 819200 (blank (layoutOf S1000 Low))
+    (put bass-c2 115 (7 ∷ []) ∷ list 0 ∷ find BASS-C2 ∷ put bAsS-C2 112 (8 ∷ []) ∷ remove bAsS-C2 ∷ find bass-c2 ∷ [])
+    (valued 0 ∷ entry BASS-C2 115 1 ∷ valued 0 ∷ refused 12 0 ∷ done ∷ refused 10 0 ∷ [])
+    ∷ answers 819200 zeros
+    (put bass 83 (7 ∷ []) ∷ put BASS 83 (8 ∷ []) ∷ list 0 ∷ find BASS ∷ remove BASS ∷ find bass ∷ [])
+    (valued 0 ∷ valued 1 ∷ entry bass 83 1 ∷ valued 1 ∷ done ∷ valued 0 ∷ [])
     ∷ []
 
 -- ---- the rows hold
+
+-- the answers of calls on the record
+abbrev fed : Shape → Files → List Call → List Answer
+fed shape held [] = []
+fed shape held (c ∷ cs) = stepFiles shape held c .answer ∷ fed shape (stepFiles shape held c .state) cs
+
+module _ (k : Kind) (d : Density) where
+  -- on an image they are the same
+  answers-fed : (cs : List Call) (img : List ℕ) (held : Files) → DiskRules (layoutOf k d) img → filesIn (layoutOf k d) img ≡ held → answersOf img cs ≡ fed (shapeOf k d) held cs
+  unfolding stepImage
+  answers-fed [] img held r e = refl
+  answers-fed (c ∷ cs) img held r e =
+      ap₂ (λ (a : Answer) (rest : List Answer). a ∷ rest)
+      (ap (λ (o : Outcome (List ℕ)). o .answer) (call-is k d img c r) ∙ ap (λ (x : Files). stepFiles (shapeOf k d) x c .answer) e)
+      (answers-fed cs (callOf img c .state) _ (rules-after k d img c r)
+      (fun-ext (files-after k d img c r) ∙ ap (λ (x : Files). stepFiles (shapeOf k d) x c .state) e))
+
+  -- the files on the bytes that are set
+  abbrev filesSet : Sparse → Files
+  filesSet s = filesOf (layoutOf k d) (viewOf (layoutOf k d) (reads s))
+
+  answers-set : (n : ℕ) (s : Sparse) (f free : ℕ) (cs : List Call) → T (inside n s) → checkHead n (reads s) ≡ Accepted k d f free → answersOf (listOf n s) cs ≡ fed (shapeOf k d) (filesSet s) cs
+  answers-set n s f free cs t e =
+      answers-fed cs (listOf n s) (filesSet s) (accepted-rules k d f free (listOf n s) (sparse-check n s t ∙ e))
+      (ap (λ (b : ℕ → ℕ). filesOf (layoutOf k d) (viewOf (layoutOf k d) b)) (fun-ext (list-reads n s t)))
 
 -- what the checker computes of a row; the map after a call follows from what put does
 abbrev Computed : Row → Type 0
 Computed (checks n s answer) = T (inside n s) × (checkHead n (reads s) ≡ answer)
 Computed (packs words packed) = packed900 words ≡ packed
 Computed (leaves n s call values) = Holds (leaves n s call values)
+Computed (answers n s calls told) =
+    (k : Kind) × (d : Density) × (f : ℕ) × (free : ℕ) × T (inside n s) × (checkHead n (reads s) ≡ Accepted k d f free) × (fed (shapeOf k d) (filesSet k d s) calls ≡ told)
 
 abbrev AllComputed : List Row → Type 0
 AllComputed [] = Unit {0}
@@ -96,6 +161,7 @@ by-computation [] c = tt
 by-computation (checks n s answer ∷ rs) c = (sparse-check n s (c .0 .0) ∙ c .0 .1, by-computation rs (c .1))
 by-computation (packs words packed ∷ rs) c = (c .0, by-computation rs (c .1))
 by-computation (leaves n s call values ∷ rs) c = (c .0, by-computation rs (c .1))
+by-computation (answers n s calls told ∷ rs) ((k, d, f, free, t, e, a), c) = (answers-set k d n s f free calls t e ∙ a, by-computation rs c)
 
 -- P13, the disk being P1's: the put is granted slot 0 and takes the blocks 4 and 5
 unfoldable p1 : List ℕ
@@ -133,7 +199,7 @@ p13 =
     rw after-put (q .0, (q .1 .0, tt))
 
 pub table : All rows
-unfolding p1 checkHead packed900
+unfolding p1 checkHead packed900 stepFiles filesOf entryAt
 table =
     by-computation rows
-    ((tt, refl), ((tt, refl), ((tt, refl), ((tt, refl), ((tt, refl), ((tt, refl), ((tt, refl), ((tt, refl), ((tt, refl), ((tt, refl), (refl, (refl, (p13, ((tt, refl), ((tt, refl), ((tt, refl), tt))))))))))))))))
+    ((tt, refl), ((tt, refl), ((tt, refl), ((tt, refl), ((tt, refl), ((tt, refl), ((tt, refl), ((tt, refl), ((tt, refl), ((tt, refl), (refl, (refl, (p13, ((tt, refl), ((tt, refl), ((tt, refl), ((S1000, Low, 0, 796, tt, refl, refl), ((S900, Low, 0, 796, tt, refl, refl), tt))))))))))))))))))

@@ -1,6 +1,7 @@
 //! A case: all that one seed decides.
 
 use crate::call::{Call, MARGIN, by_library, by_model};
+use crate::spellings::{self, Counts};
 use crate::{disks, programs, samples, scripts};
 use model::random::Random;
 use std::fmt;
@@ -56,19 +57,25 @@ impl fmt::Display for Disagreement {
     }
 }
 
-/// How many calls were made, by the number they were refused with; 0 for those that were done.
+/// How many calls were made.
 #[derive(Clone, Copy, Debug, Default, PartialEq, Eq)]
-pub struct Tally(pub [usize; 22]);
+pub struct Tally {
+    /// By the number they were refused with; 0 for those that were done.
+    pub refusals: [usize; 22],
+    /// Those that met another spelling of their name.
+    pub spellings: Counts,
+}
 
 impl Tally {
     /// All calls.
     pub fn calls(&self) -> usize {
-        self.0.iter().sum()
+        self.refusals.iter().sum()
     }
 
     /// Adds another tally's calls.
     pub fn add(&mut self, other: &Tally) {
-        self.0.iter_mut().zip(other.0).for_each(|(sum, more)| *sum += more);
+        self.refusals.iter_mut().zip(other.refusals).for_each(|(sum, more)| *sum += more);
+        self.spellings.iter_mut().zip(&other.spellings).for_each(|(sum, more)| sum.add(more));
     }
 }
 
@@ -163,7 +170,7 @@ impl Case {
     pub fn call(&mut self, call: &Call) -> Result<(), Box<Disagreement>> {
         let end = self.model.len().saturating_sub(MARGIN);
         let start = MARGIN.min(end);
-        let lent = call.clone();
+        let (lent, respelt) = (call.clone(), spellings::met(call, &self.model[start..end]));
         let library = by_library(&lent, &mut self.library[start..end]);
         let model = by_model(call, &mut self.model[start..end]);
         let difference = if lent != *call {
@@ -179,11 +186,18 @@ impl Case {
         } else if let Some(at) = first_apart(&self.library, &self.model) {
             format!("image at {}", told(&self.library, &self.model, at))
         } else {
-            self.tally.0[model.given.refusal() as usize] += 1;
+            self.count(call, model.given.refusal(), respelt);
             return Ok(());
         };
         let (sort, seed, about, turn) = (self.sort, self.seed, self.about.clone(), self.tally.calls());
         Err(Box::new(Disagreement { sort, seed, about, turn, call: call.to_string(), difference }))
+    }
+
+    fn count(&mut self, call: &Call, refusal: u32, respelt: Option<usize>) {
+        self.tally.refusals[refusal as usize] += 1;
+        if let Some(layout) = respelt {
+            spellings::count(&mut self.tally.spellings, layout, call, refusal);
+        }
     }
 }
 

@@ -3,7 +3,7 @@
 use crate::call::{Call, MARGIN};
 use model::disk::Disk;
 use model::layout::{BLOCK, Kind, SLOTS};
-use model::maker::{legal_name, legal_type};
+use model::maker::{legal_name, legal_type, respelt};
 use model::random::Random;
 
 /// An output of a length with its margins, all noise.
@@ -31,13 +31,16 @@ pub fn near(due: usize, random: &mut Random) -> usize {
     }
 }
 
-/// A name: one on the disk, a new one, or an illegal one.
+/// A name: one on the disk, to the letter or in another spelling, a new one, or an illegal one.
 pub fn name(kind: Kind, disk: Option<&Disk>, random: &mut Random) -> Vec<u8> {
     let mut name = legal_name(kind, random);
     if random.one_in(2)
         && let Some(file) = disk.and_then(|disk| disk.file(random.below(SLOTS)))
     {
         name.clone_from(&file.name);
+    }
+    if random.one_in(3) {
+        name = respelt(&name, random);
     }
     match random.below(30) {
         0 => name.truncate(random.below(name.len())),
@@ -46,13 +49,13 @@ pub fn name(kind: Kind, disk: Option<&Disk>, random: &mut Random) -> Vec<u8> {
         3 => name.resize(random.pick(&[0, 1, 9, 10, 11, 12, 13, 16, 300]), b' '),
         4 => {
             let at = random.below(name.len());
-            name[at] = random.pick(&[0, 10, 31, 32, 40, 41, 58, 64, 91, 96, 97, 122, 126, 127, 128, 255]);
+            name[at] =
+                random.pick(&[0, 10, 31, 32, 40, 41, 58, 64, 91, 96, 97, 122, 123, 126, 127, 128, 255]);
         }
         5 => {
             let at = random.below(name.len());
             name[at] = random.byte();
         }
-        6 => name.iter_mut().for_each(|byte| *byte = byte.to_ascii_lowercase()),
         _ => {}
     }
     name

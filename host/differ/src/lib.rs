@@ -12,3 +12,4 @@ mod disks;
 mod programs;
 mod samples;
 mod scripts;
+pub mod spellings;

@@ -1,6 +1,7 @@
 //! The library against the model, the same cases at every run.
 
 use differ::case::{self, Disagreement, Sort, Tally};
+use model::layout::{Kind, LAYOUTS};
 use std::process::Command;
 
 /// Fewest calls of a run.
@@ -16,18 +17,32 @@ fn library_and_model_agree() {
         }
         seed += 1;
     }
-    println!("{seed} cases, {} calls, by refusal {:?}", tally.calls(), tally.0);
-    for number in 0..=21 {
+    println!("{seed} cases, {} calls, by refusal {:?}", tally.calls(), tally.refusals);
+    for (number, count) in tally.refusals.into_iter().enumerate() {
         // 16 can't be given: 15 is asked first.
-        let enough = if number == 16 { tally.0[number] == 0 } else { tally.0[number] >= 100 };
-        assert!(enough, "{} calls were refused by {number}", tally.0[number]);
+        let enough = if number == 16 { count == 0 } else { count >= 100 };
+        assert!(enough, "{count} calls were refused by {number}");
+    }
+    spellings_were_met(&tally);
+}
+
+/// On S1000 disks of both densities files were found and removed, and puts refused, by another spelling than the disk's; on
+/// S900 disks two spellings stood side by side, and each was found and removed for itself.
+fn spellings_were_met(tally: &Tally) {
+    for (layout, met) in LAYOUTS.iter().zip(tally.spellings) {
+        println!("{layout:?}: {met:?}");
+        let counts = match layout.kind {
+            Kind::S900 => vec![met.beside, met.apart],
+            Kind::S1000 => vec![met.found, met.used, met.removed],
+        };
+        assert!(counts.iter().all(|&count| count >= 30), "{layout:?}: {met:?}");
     }
 }
 
 #[test]
 fn every_byte_of_files_is_judged_alike() {
     match case::run_every_byte(1) {
-        Ok(tally) => println!("{} calls, by refusal {:?}", tally.calls(), tally.0),
+        Ok(tally) => println!("{} calls, by refusal {:?}", tally.calls(), tally.refusals),
         Err(disagreement) => panic!("{disagreement}"),
     }
 }

@@ -2,7 +2,7 @@
 
 use crate::disk::{content, read};
 use crate::layout::{BLOCK, Layout, MAP_AT, SLOT_BYTES, SLOTS, blocks_for};
-use crate::names::{area_of, is_type};
+use crate::names::{area_of, is_type, kept};
 use crate::{Answer, refuse, store};
 
 /// The longest content that a slot's three bytes could tell.
@@ -55,10 +55,8 @@ pub fn list(image: &[u8], slot: usize) -> Answer<Listed> {
 /// Finds a file's slot: 11, 10.
 pub fn find(image: &[u8], name: &[u8]) -> Answer<usize> {
     let disk = read(image)?;
-    if area_of(disk.layout.kind, name).is_none() {
-        return refuse(11, 0);
-    }
-    match disk.slot_of(name) {
+    let Some(name) = kept(disk.layout.kind, name) else { return refuse(11, 0) };
+    match disk.slot_of(&name) {
         Some(slot) => Ok(slot),
         None => refuse(10, 0),
     }
@@ -92,14 +90,16 @@ pub fn blocks(image: &[u8], slot: usize, output: &mut [u16]) -> Answer<usize> {
 pub fn put(image: &mut [u8], name: &[u8], file_type: u8, content: &[u8]) -> Answer<usize> {
     let disk = read(image)?;
     let layout = disk.layout;
-    let Some(area) = area_of(layout.kind, name) else { return refuse(11, 0) };
+    let (Some(area), Some(name)) = (area_of(layout.kind, name), kept(layout.kind, name)) else {
+        return refuse(11, 0);
+    };
     if !is_type(layout.kind, file_type) {
         return refuse(11, 0);
     }
     if content.is_empty() {
         return refuse(13, 0);
     }
-    if let Some(slot) = disk.slot_of(name) {
+    if let Some(slot) = disk.slot_of(&name) {
         return refuse(12, slot);
     }
     let Some(slot) = (0..SLOTS).find(|&slot| disk.files[slot].is_none()) else { return refuse(14, 0) };

@@ -39,7 +39,7 @@ impl Disk {
         self.files.get(slot)?.as_ref()
     }
 
-    /// The slot of the file with a name in ASCII.
+    /// The slot of the file with a name in ASCII, as the disk keeps it.
     pub fn slot_of(&self, name: &[u8]) -> Option<usize> {
         (0..SLOTS).find(|&slot| self.file(slot).is_some_and(|file| file.name == name))
     }

@@ -104,7 +104,7 @@ fn parts(total: usize, count: usize, random: &mut Random) -> Vec<usize> {
     if count == 0 { Vec::new() } else { parts.collect() }
 }
 
-/// A legal name in ASCII; half of them differ from others in few characters.
+/// A legal name in ASCII, as the disk keeps it; half of them differ from others in few characters.
 pub fn legal_name(kind: Kind, random: &mut Random) -> Vec<u8> {
     let all: &[u8] = match kind {
         Kind::S900 => b" ~!09AZaz#+-.@",
@@ -119,6 +119,17 @@ pub fn legal_name(kind: Kind, random: &mut Random) -> Vec<u8> {
         name.iter_mut().for_each(|byte| *byte = random.pick(all));
     }
     name
+}
+
+/// A name in another spelling: some of its letters, or all, in the other case.
+pub fn respelt(name: &[u8], random: &mut Random) -> Vec<u8> {
+    let all = random.one_in(3);
+    let other = |&byte: &u8| match byte {
+        b'A'..=b'Z' if all || random.one_in(2) => byte + 32,
+        b'a'..=b'z' if all || random.one_in(2) => byte - 32,
+        _ => byte,
+    };
+    name.iter().map(other).collect()
 }
 
 /// A legal type.

@@ -1,13 +1,18 @@
-//! Names and types (document 01, "The disk"). Callers give ASCII; S1000 disks hold AKAII.
+//! Names and types (document 01, "The disk"; document 02, request two). Callers give ASCII; S1000 disks hold AKAII, which
+//! has no small letters.
 
 use crate::layout::Kind;
 
 /// The AKAII characters: each stands at its code.
 const AKAII: &[u8; 41] = b"0123456789 ABCDEFGHIJKLMNOPQRSTUVWXYZ#+-.";
 
-/// The AKAII code of an ASCII character, if it has one.
+/// The AKAII code of an ASCII character, if it has one: a to z have those of A to Z.
 pub fn code_of(character: u8) -> Option<u8> {
-    AKAII.iter().position(|&each| each == character).map(|code| code as u8)
+    let capital = match character {
+        b'a'..=b'z' => character - b'a' + b'A',
+        _ => character,
+    };
+    AKAII.iter().position(|&each| each == capital).map(|code| code as u8)
 }
 
 /// The ASCII character of an AKAII code, if it is one.
@@ -63,10 +68,52 @@ pub fn name_of(kind: Kind, area: &[u8]) -> Option<Vec<u8>> {
     name.iter().map(character).collect()
 }
 
+/// A legal name as a disk keeps it: in capitals on S1000 disks, as it is on S900 disks. Two spellings that are kept alike
+/// are one name.
+pub fn kept(kind: Kind, name: &[u8]) -> Option<Vec<u8>> {
+    name_of(kind, &area_of(kind, name)?)
+}
+
 /// Whether a byte is a legal type: capitals on S900 disks, small letters on S1000 disks.
 pub fn is_type(kind: Kind, byte: u8) -> bool {
     match kind {
         Kind::S900 => byte.is_ascii_uppercase(),
         Kind::S1000 => byte.is_ascii_lowercase(),
+    }
+}
+
+#[cfg(test)]
+mod tests {
+    use super::*;
+
+    /// There and back is the capital of a small letter, and every other character itself.
+    #[test]
+    fn every_byte_goes_there_and_back_or_has_no_code() {
+        for byte in 0..=255 {
+            let back = code_of(byte).map(|code| character_of(code).expect("a code"));
+            let expected = match byte {
+                b'a'..=b'z' => Some(byte - 32),
+                b'0'..=b'9' | b' ' | b'A'..=b'Z' | b'#' | b'+' | b'-' | b'.' => Some(byte),
+                _ => None,
+            };
+            assert_eq!(back, expected, "{byte}");
+            assert_eq!(character_of(byte).and_then(code_of), (byte <= 40).then_some(byte), "{byte}");
+        }
+    }
+
+    #[test]
+    fn s1000_names_are_kept_in_capitals_and_s900_names_as_they_are() {
+        let area = *b"\x0c\x0b\x1d\x1d\x0a\x0d\x02\x0a\x0a\x0a\x0a\x0a    ";
+        for name in [b"Bass c2     ", b"BASS C2     ", b"bAsS C2     "] {
+            assert_eq!(area_of(Kind::S1000, name), Some(area));
+            assert_eq!(kept(Kind::S1000, name), Some(b"BASS C2     ".to_vec()));
+        }
+        assert_eq!(kept(Kind::S900, b"Bass c2   "), Some(b"Bass c2   ".to_vec()));
+        for around in [b'@', b'[', b'`', b'{'] {
+            let mut name = *b"BASS C2     ";
+            name[1] = around;
+            assert_eq!(kept(Kind::S1000, &name), None);
+            assert_eq!(kept(Kind::S900, &name[..10]), Some(name[..10].to_vec()));
+        }
     }
 }

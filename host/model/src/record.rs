@@ -3,13 +3,13 @@
 use crate::calls::{Checked, Listed, Paged};
 use crate::disk::{Disk, content};
 use crate::layout::{Layout, SLOTS, blocks_for};
-use crate::names::{area_of, is_type};
+use crate::names::{is_type, kept};
 use crate::{Answer, refuse};
 
 /// What a slot of the record holds.
 #[derive(Clone, Debug, PartialEq, Eq)]
 pub struct Entry {
-    /// The name in ASCII.
+    /// The name in ASCII, as the disk keeps it.
     pub name: Vec<u8>,
     /// The type byte.
     pub file_type: u8,
@@ -64,10 +64,8 @@ impl Record {
 
     /// Finds a name's slot.
     pub fn find(&self, name: &[u8]) -> Answer<usize> {
-        if area_of(self.layout.kind, name).is_none() {
-            return refuse(11, 0);
-        }
-        self.slot_of(name).map_or(refuse(10, 0), Ok)
+        let Some(name) = kept(self.layout.kind, name) else { return refuse(11, 0) };
+        self.slot_of(&name).map_or(refuse(10, 0), Ok)
     }
 
     /// Copies a content's bytes from an offset on.
@@ -82,21 +80,18 @@ impl Record {
     /// Puts a file into the lowest empty slot.
     pub fn put(&mut self, name: &[u8], file_type: u8, content: &[u8]) -> Answer<usize> {
         let kind = self.layout.kind;
-        if area_of(kind, name).is_none() || !is_type(kind, file_type) {
-            return refuse(11, 0);
-        }
+        let Some(name) = kept(kind, name).filter(|_| is_type(kind, file_type)) else { return refuse(11, 0) };
         if content.is_empty() {
             return refuse(13, 0);
         }
-        if let Some(slot) = self.slot_of(name) {
+        if let Some(slot) = self.slot_of(&name) {
             return refuse(12, slot);
         }
         let Some(slot) = (0..SLOTS).find(|&slot| self.entry(slot).is_err()) else { return refuse(14, 0) };
         if blocks_for(content.len()) > self.free() {
             return refuse(15, 0);
         }
-        let entry = Entry { name: name.to_vec(), file_type, content: content.to_vec() };
-        self.entries[slot] = Some(entry);
+        self.entries[slot] = Some(Entry { name, file_type, content: content.to_vec() });
         Ok(slot)
     }
 

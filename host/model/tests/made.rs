@@ -51,6 +51,9 @@ fn faults_are_refused() {
 fn step(image: &mut [u8], record: &mut Record, random: &mut Random, kind: Kind) {
     let known = record.list(random.below(64)).map(|listed| listed.name);
     let mut name = known.unwrap_or_else(|_| maker::legal_name(kind, random));
+    if random.one_in(3) {
+        name = maker::respelt(&name, random);
+    }
     if random.one_in(20) {
         name[0] = random.byte();
     }
@@ -65,7 +68,8 @@ fn step(image: &mut [u8], record: &mut Record, random: &mut Random, kind: Kind) 
         }
         3 => {
             let (file_type, content) = (maker::legal_type(kind, random), random.bytes(offset));
-            let name = maker::legal_name(kind, random);
+            let new = maker::legal_name(kind, random);
+            let name = if random.one_in(3) { name } else { maker::respelt(&new, random) };
             let put = calls::put(image, &name, file_type, &content);
             assert_eq!(put, record.put(&name, file_type, &content));
         }

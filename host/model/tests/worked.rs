@@ -1,6 +1,6 @@
 //! The worked disks and words of document 01.
 
-use model::calls::{blocks, check, put};
+use model::calls::{blocks, check, find, list, put, remove};
 use model::layout::{Kind, LAYOUTS, Layout};
 use model::{Refusal, samples};
 
@@ -101,6 +101,25 @@ fn the_sources_slip_ends_no_chain() {
     let mut image = empty(S1000_HIGH);
     assert_eq!(put(&mut image, b"A           ", b's', &[7; 1025]), Ok(0));
     assert_eq!(image[1536 + 10..][..4], [6, 0, 0, 192]);
+}
+
+/// Request two: on S1000 disks small letters are capitals, and two spellings are one name.
+#[test]
+fn spellings_are_one_name_on_s1000_disks_alone() {
+    let mut image = empty(S1000_HIGH);
+    assert_eq!(put(&mut image, b"Bass c2     ", b's', b"x"), Ok(0));
+    assert_eq!(image[..12], [12, 11, 29, 29, 10, 13, 2, 10, 10, 10, 10, 10]);
+    assert_eq!(list(&image, 0).map(|listed| listed.name), Ok(b"BASS C2     ".to_vec()));
+    assert_eq!(find(&image, b"bAsS C2     "), Ok(0));
+    assert_eq!(put(&mut image, b"bASS C2     ", b'p', b"x"), Err(Refusal { number: 12, place: 0 }));
+    assert_eq!(remove(&mut image, b"BASs c2     "), Ok(()));
+    assert_eq!(counts(&image), (0, 1595));
+    let mut image = empty(S900_LOW);
+    assert_eq!(put(&mut image, b"Bass      ", b'S', b"x"), Ok(0));
+    assert_eq!(find(&image, b"BASS      "), Err(Refusal { number: 10, place: 0 }));
+    assert_eq!(put(&mut image, b"BASS      ", b'S', b"x"), Ok(1));
+    assert_eq!(remove(&mut image, b"Bass      "), Ok(()));
+    assert_eq!(find(&image, b"BASS      "), Ok(1));
 }
 
 #[test]

@@ -33,6 +33,14 @@ pub fn padded(kind: Kind, name: &str) -> String {
     kind.padded(name.trim_end_matches(' '))
 }
 
+/// A name or a pattern in the letters that the kind has: an S1000's are capitals, and small ones stand for them.
+pub fn folded(kind: Kind, word: &str) -> String {
+    match kind {
+        Kind::S900 => word.to_string(),
+        Kind::S1000 => word.to_ascii_uppercase(),
+    }
+}
+
 /// The files that words name, each once, in the words' order: a slot, a name, or a pattern that stands for every name
 /// that it matches. A name that is on the disk to the letter is that file alone, also where it looks like a pattern.
 pub fn chosen<B: AsRef<[u8]>>(
@@ -68,7 +76,8 @@ fn named<B: AsRef<[u8]>>(
         Ok(slot) => Ok((vec![image.list(slot).map_err(refused)?], false)),
         Err(_) if is_pattern(word) => {
             let mut entries = image.entries().map_err(refused)?;
-            entries.retain(|entry| matches(word, entry.name.trim_end()));
+            let pattern = folded(kind, word);
+            entries.retain(|entry| matches(&pattern, entry.name.trim_end()));
             if entries.is_empty() {
                 let advice = "List the disk to see its names and slots.";
                 return Err(Failure::declined(about, "no file has such a name", advice).on(word));
@@ -80,7 +89,7 @@ fn named<B: AsRef<[u8]>>(
 }
 
 /// Whether a pattern matches the whole of a name: `*` stands for any characters, `?` for one. Letters match in the
-/// case that they are written in.
+/// case that they are written in, so the pattern for an S1000 disk is folded before.
 pub fn matches(pattern: &str, name: &str) -> bool {
     let (pattern, name) = (pattern.as_bytes(), name.as_bytes());
     let (mut at, mut from) = (0, 0);
@@ -114,11 +123,14 @@ pub fn refused_name(about: &str, kind: Kind, name: &str, refusal: Refusal) -> Fa
 pub fn bad_character(kind: Kind, name: &str) -> Option<String> {
     let (most, rule) = match kind {
         Kind::S900 => (10, "an S900 name has at most 10 characters of ASCII, space to ~"),
-        Kind::S1000 => (12, "an S1000 name has at most 12 of 0-9, A-Z, space and # + - ."),
+        Kind::S1000 => (
+            12,
+            "an S1000 name has at most 12 of 0-9, A-Z (small letters are taken as capitals), space and # + - .",
+        ),
     };
     let legal = |character: &char| match kind {
         Kind::S900 => matches!(character, ' '..='~'),
-        Kind::S1000 => matches!(character, '0'..='9' | 'A'..='Z' | ' ' | '#' | '+' | '-' | '.'),
+        Kind::S1000 => character.is_ascii_alphanumeric() || matches!(character, ' ' | '#' | '+' | '-' | '.'),
     };
     let length = name.trim_end().chars().count();
     match name.chars().position(|character| !legal(&character)) {
@@ -169,10 +181,26 @@ mod tests {
         no.iter().for_each(|(pattern, name)| assert!(!matches(pattern, name), "{pattern} {name}"));
     }
 
+    /// Small letters of a pattern stand for capitals where the disk has no others.
+    #[test]
+    fn patterns_are_folded_for_an_s1000() {
+        for (pattern, s900, s1000) in
+            [("b*", false, true), ("B*", true, true), ("bAsS ??", false, true), ("BASS C?", true, true)]
+        {
+            assert_eq!(matches(&folded(Kind::S900, pattern), "BASS C2"), s900, "{pattern}");
+            assert_eq!(matches(&folded(Kind::S1000, pattern), "BASS C2"), s1000, "{pattern}");
+        }
+        assert_eq!(folded(Kind::S1000, "a\u{e9}#9"), "A\u{e9}#9"); // what has no code stays to be refused
+    }
+
     #[test]
     fn illegal_names_and_types_are_told_with_their_rule() {
         assert_eq!(bad_character(Kind::S900, "a/b"), None);
         assert_eq!(bad_character(Kind::S1000, "BASS C2"), None);
+        assert_eq!(bad_character(Kind::S1000, "abcxyz 09#+-"), None);
+        for around in ["@", "[", "`", "{", "\u{17f}"] {
+            assert!(bad_character(Kind::S1000, around).is_some(), "{around}");
+        }
         let words = bad_character(Kind::S1000, "A/B").expect("a slash");
         assert!(words.contains("'/' (2 of 3)") && words.contains("S1000"), "{words}");
         let words = bad_character(Kind::S900, "12345678901").expect("too long");

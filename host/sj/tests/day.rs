@@ -267,7 +267,7 @@ fn messages_are_short_and_plain() {
         "{told}"
     );
     for (words, says) in [
-        (&["put", "s.img", "B.S", "--type", "s", "--name", "a/b"][..], "character 'a' (1 of 3)"),
+        (&["put", "s.img", "B.S", "--type", "s", "--name", "a/b"][..], "character '/' (2 of 3)"),
         (&["put", "s.img", "B.S", "--type", "s", "--name", "A\u{e9}"], "character 'é' (2 of 2)"),
         (&["put", "s.img", "B.S", "--type", "s", "--name", "ABCDEFGHIJKLM"], "the name has 13 characters"),
         (&["put", "s.img", "B.S"], "the type 'S' isn't legal: an S1000 type is one of a to z"),

@@ -147,7 +147,8 @@ fn get_copies_whole_files() {
         .sj(&["get", "a.img", "NOT HERE"])
         .failed(1, &["a.img: NOT HERE: there is no such file (refusal 10)"]);
     folder.sj(&["get", "a.img", "#64"]).failed(1, &["refusal 10"]);
-    folder.sj(&["get", "a.img", "lower case"]).failed(1, &["refusal 11", "12 of 0-9, A-Z"]);
+    folder.sj(&["get", "a.img", "lower case"]).failed(1, &["a.img: lower case: there is no such file"]);
+    folder.sj(&["get", "a.img", "lower_case"]).failed(1, &["refusal 11", "12 of 0-9, A-Z (small letters"]);
     folder.sj(&["get", "a.img"]).failed(2, &["name or '#slot' is missing"]);
     folder.sj(&["get", "a.img", "X", "-o"]).failed(2, &["-o needs a value"]);
     assert_eq!(folder.names(), ["a.img", "by-name"]);

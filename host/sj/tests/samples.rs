@@ -368,7 +368,9 @@ fn a_packed_sample_gets_a_name() {
     assert_eq!(folder.read("new")[..16], *b"Bass c2~  \0\0\0\0\0\0");
     pack("like1000", &["--name", "A9 Z#+-."]).done();
     assert_eq!(folder.read("new")[3..15], [11, 9, 10, 36, 37, 38, 39, 40, 10, 10, 10, 10]);
-    pack("like1000", &["--name", "bass"]).failed(1, &["in.wav: bass: ", "'b' (1 of 4) isn't legal"]);
+    pack("like1000", &["--name", "Bass c2"]).done(); // AKAII has capitals alone
+    assert_eq!(folder.read("new")[3..15], [12, 11, 29, 29, 10, 13, 2, 10, 10, 10, 10, 10]);
+    pack("like1000", &["--name", "b_ss"]).failed(1, &["in.wav: b_ss: ", "'_' (2 of 4) isn't legal"]);
     pack("like900", &["--name", "12345678901"]).failed(1, &["11 characters", "S900"]);
     pack("like900", &["--name="]).failed(2, &["--allow-empty-name"]);
     pack("like1000", &["--name= ", "--allow-empty-name"]).done();

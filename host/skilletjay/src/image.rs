@@ -29,7 +29,8 @@ impl Kind {
         }
     }
 
-    /// A name padded with spaces to the kind's length. A longer one stays, and calls refuse it by 11.
+    /// A name padded with spaces to the kind's length. A longer one stays, and calls refuse it by 11. Letters stay as they
+    /// are typed; the calls take small ones for capitals on an S1000 disk.
     ///
     /// ```
     /// assert_eq!(skilletjay::Kind::S900.padded("BASS"), "BASS      ");
@@ -94,7 +95,7 @@ impl fmt::Display for Slot {
 pub struct Entry {
     /// The slot.
     pub slot: Slot,
-    /// The name with its spaces, 10 characters (S900) or 12 (S1000).
+    /// The name with its spaces, 10 characters (S900) or 12, with letters in capitals (S1000).
     pub name: String,
     /// The type, A to Z (S900) or a to z (S1000).
     pub file_type: u8,
@@ -165,7 +166,8 @@ impl<B: AsRef<[u8]>> Image<B> {
         Ok((0..SLOTS).filter_map(|slot| self.list(Slot(slot)).ok()).take(files).collect())
     }
 
-    /// The slot of the file with a name, in ASCII with its spaces: 11, 10.
+    /// The slot of the file with a name, in ASCII with its spaces: 11, 10. On an S1000 disk small letters are taken as
+    /// capitals, here and in [`put`](Image::put) and [`remove`](Image::remove); S900 names keep their case.
     pub fn find(&self, name: impl AsRef<[u8]>) -> Result<Slot, Refusal> {
         let told = lend::find(self.bytes(), name.as_ref());
         Refusal::or(told.refusal, told.place, Slot(told.slot))
@@ -223,7 +225,8 @@ impl<B: AsRef<[u8]>> Image<B> {
 }
 
 impl<B: AsRef<[u8]> + AsMut<[u8]>> Image<B> {
-    /// Puts a file into the lowest empty slot: 11, 13, 12, 14, 15, 16.
+    /// Puts a file into the lowest empty slot: 11, 13, 12, 14, 15, 16. On an S1000 disk the name is kept in capitals, so two
+    /// spellings of it are one: 12.
     pub fn put(&mut self, name: impl AsRef<[u8]>, file_type: u8, content: &[u8]) -> Result<Slot, Refusal> {
         let told = lend::put(self.bytes.as_mut(), name.as_ref(), file_type, content);
         Refusal::or(told.refusal, told.place, Slot(told.slot))
@@ -267,6 +270,58 @@ mod tests {
         assert_eq!(number(image.remove("A         ")), Some(10));
         assert_eq!(image.into_bytes(), vec![0; 819_200]);
         assert_eq!(number(Image::new([]).check()), Some(1));
+    }
+
+    /// A disk of a kind and a density without files.
+    fn blank(kind: Kind, density: Density) -> Image {
+        let (blocks, system) = if density == Density::Low { (800, 4) } else { (1600, 5) };
+        let mut bytes = vec![0; blocks * BLOCK];
+        if kind == Kind::S1000 {
+            (0..SLOTS).for_each(|slot| bytes[24 * slot + 23] = 3);
+            (0..system).for_each(|block| bytes[1536 + 2 * block + 1] = 64);
+        }
+        Image::new(bytes)
+    }
+
+    #[test]
+    fn small_letters_are_capitals_on_an_s1000_disk() {
+        for density in [Density::Low, Density::High] {
+            let mut image = blank(Kind::S1000, density);
+            let padded = |name: &str| Kind::S1000.padded(name);
+            let slot = image.put(padded("Bass c2"), b's', b"x").expect("room");
+            assert_eq!(image.list(slot).expect("there").name, "BASS C2     ");
+            assert_eq!(image.bytes()[..12], [12, 11, 29, 29, 10, 13, 2, 10, 10, 10, 10, 10]);
+            for name in ["BASS C2", "bass c2", "bAsS C2"] {
+                assert_eq!(image.find(padded(name)), Ok(slot));
+            }
+            let before = image.clone();
+            let refusal = image.put(padded("bAsS C2"), b'p', b"y").expect_err("one name");
+            assert_eq!((refusal.number(), refusal.place()), (12, slot.0));
+            assert_eq!(number(image.find(padded("bass`c2"))), Some(11));
+            assert_eq!(image, before);
+            assert_eq!(image.remove(padded("BaSs C2")), Ok(()));
+            assert_eq!(image.check().expect("accepted").files, 0);
+        }
+    }
+
+    #[test]
+    fn s900_names_keep_their_case() {
+        for density in [Density::Low, Density::High] {
+            let mut image = blank(Kind::S900, density);
+            let padded = |name: &str| Kind::S900.padded(name);
+            let slots = ["Bass", "BASS"].map(|name| image.put(padded(name), b'S', name.as_bytes()));
+            assert_eq!(slots, [Ok(Slot(0)), Ok(Slot(1))]);
+            assert_eq!(image.list(Slot(0)).expect("there").name, "Bass      ");
+            assert_eq!(
+                (image.find(padded("BASS")), number(image.find(padded("bass")))),
+                (Ok(Slot(1)), Some(10))
+            );
+            assert_eq!(image.remove(padded("Bass")), Ok(()));
+            assert_eq!(
+                (number(image.find(padded("Bass"))), image.find(padded("BASS"))),
+                (Some(10), Ok(Slot(1)))
+            );
+        }
     }
 
     #[test]

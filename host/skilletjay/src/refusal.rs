@@ -94,14 +94,15 @@ const ROWS: [Row; 21] = [
         11,
         Place::None,
         "the name or the type isn't legal on this disk",
-        "Give an S900 disk 10 characters of ASCII and a type A to Z; give an S1000 disk 12 of 0-9, A-Z, space and \
-         # + - . and a type a to z.",
+        "Give an S900 disk 10 characters of ASCII and a type A to Z; give an S1000 disk 12 of 0-9, letters (kept as \
+         capitals), space and # + - . and a type a to z.",
     ),
     (
         12,
         Place::Slot,
         "the name is already used",
-        "Take another name, or remove the file that has it first; types don't tell names apart.",
+        "Take another name, or remove the file that has it first; types don't tell names apart, nor on an S1000 disk \
+         small letters and capitals.",
     ),
     (13, Place::None, "the content is empty", "Give a content of at least one byte."),
     (14, Place::None, "all 64 slots are used", "Remove a file first, or take another disk."),

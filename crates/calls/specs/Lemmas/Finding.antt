@@ -1,16 +1,14 @@
 -- The slot that the record finds for a legal name is the lowest used slot with the name's area.
--- On a valid disk a used slot's area is its name's, and a legal name is its area's. Assumes nothing.
+-- On a valid disk a used slot's area is its name's, and a legal name's capitals are its area's. Assumes nothing.
 use mathlib.Core.Path.{_≡_, refl, sym, ap, _∙_}
 use mathlib.Core.Bool.{Bool, true, false}
 use mathlib.Core.List.{List}
 use Prim.Native.Nat.{ℕ, _<_}
 use native.Mathlib.Omega.{arith}
 use native.Mathlib.Nat.{zero-add}
-use lib.Dec.{leb}
 use lib.ListN.{length}
 use borrow.Author.Tests.{lt-ltb}
-use Rattle.laws.specs.Truth.{both}
-use Rattle.laws.specs.Lemmas.Truth.{both-true, same-truth}
+use Rattle.laws.specs.Lemmas.Truth.{same-truth}
 use Rattle.laws.specs.Scan.{lowest}
 use Rattle.laws.specs.Lemmas.Scan.{lowest-cong}
 use Rattle.laws.specs.declared.Lowest.{Lowest}
@@ -21,9 +19,10 @@ use Rattle.laws.specs.Reader.{bytes, tab}
 use Rattle.laws.specs.Lemmas.Reader.{tab-is}
 use Rattle.layout.specs.declared.Layout.{Layout}
 use Rattle.layout.specs.Right.{LayoutRight}
-use Rattle.names.specs.Names.{legalName, legalArea, legalType, areaOf, nameOf}
-use Rattle.names.specs.NameLaws.{length-area, name-back, area-back}
-use Rattle.view.specs.Disk.{Entry, used, formed, filesOf}
+use Rattle.names.specs.Names.{legalName, areaOf, nameOf, capitals}
+use Rattle.names.specs.NameLaws.{length-area, name-back, area-back, capitals-area}
+use Rattle.view.specs.Disk.{used, filesOf}
+use Rattle.view.specs.Lemmas.Put.{formed-area}
 use Rattle.image.specs.Image.{viewOf, filesIn, DiskRules}
 use Rattle.slots.specs.Keys.{Key, hasKeys}
 use Rattle.slots.specs.Lemmas.Keys.{hasArea, keys-area}
@@ -31,31 +30,28 @@ use Rattle.record.specs.Record.{Files, refuse, named, slotOf, judgeName}
 use Rattle.record.specs.Order.{order-illegal, order-missing, order-found}
 use Rattle.record.specs.declared.Judged.the-variants.{Grant}
 
-formed-area : (l : Layout) (e : Entry) → formed l e ≡ true → legalArea l (e .area) ≡ true
-unfolding formed
-formed-area l e h = both-true (legalArea l (e .area)) (both (legalType l (e .type)) (leb 1 (e .size))) h .0
-
 module _ (l : Layout) (right : LayoutRight l) (img : List ℕ) (rules : DiskRules l img) (name : List ℕ) (legal : legalName l name ≡ true) where
-  named-by : (s : ℕ) → s < l .slots → (u : Bool) → used (viewOf l (bytes img) .entry s) ≡ u → named name (filesIn l img s) ≡ hasArea (areaOf l name) (viewOf l (bytes img) .entry s)
+  named-by : (s : ℕ) → s < l .slots → (u : Bool) → used (viewOf l (bytes img) .entry s) ≡ u → named l name (filesIn l img s) ≡ hasArea (areaOf l name) (viewOf l (bytes img) .entry s)
   unfolding filesOf hasArea
   named-by s i true u =
       let e = viewOf l (bytes img) .entry s in
       rw (lt-ltb s (l .slots) i, u)
-      (same-truth (same name (nameOf l (e .area))) (same (areaOf l name) (e .area))
+      (same-truth (same (capitals l name) (nameOf l (e .area))) (same (areaOf l name) (e .area))
       (λ h.
-      ap (λ (n : List ℕ). same (areaOf l n) (e .area)) (same-true name (nameOf l (e .area)) h)
+      ap (λ (a : List ℕ). same a (e .area)) (sym (capitals-area l name))
+      ∙ ap (λ (n : List ℕ). same (areaOf l n) (e .area)) (same-true (capitals l name) (nameOf l (e .area)) h)
       ∙ ap (λ (a : List ℕ). same a (e .area)) (area-back l right (e .area) (formed-area l e (rules .valid .legal s (i, u))))
       ∙ same-refl (e .area))
       (λ h.
-      ap (λ (a : List ℕ). same name (nameOf l a)) (sym (same-true (areaOf l name) (e .area) h))
-      ∙ ap (same name) (name-back l right name legal)
-      ∙ same-refl name))
+      ap (λ (a : List ℕ). same (capitals l name) (nameOf l a)) (sym (same-true (areaOf l name) (e .area) h))
+      ∙ ap (same (capitals l name)) (name-back l right name legal)
+      ∙ same-refl (capitals l name)))
   named-by s i false u = rw (lt-ltb s (l .slots) i, u) refl
 
   pub slot-is : slotOf l (filesIn l img) name ≡ lowest (λ s. hasArea (areaOf l name) (viewOf l (bytes img) .entry s)) 0 (l .slots)
   unfolding slotOf
   slot-is =
-      lowest-cong (λ s. named name (filesIn l img s)) (λ s. hasArea (areaOf l name) (viewOf l (bytes img) .entry s)) 0 (l .slots)
+      lowest-cong (λ s. named l name (filesIn l img s)) (λ s. hasArea (areaOf l name) (viewOf l (bytes img) .entry s)) 0 (l .slots)
       (λ s p q. named-by s (omega arith) (used (viewOf l (bytes img) .entry s)) refl)
 
 -- the slot found with the keys of the name's area is the record's

@@ -11,7 +11,7 @@ use Rattle.laws.specs.Splice.{part}
 use Rattle.laws.specs.Padded.{padded}
 use Rattle.laws.specs.Lemmas.Padded.{padded-nil, take-padded}
 use Rattle.laws.specs.Reader.{bytes, tab}
-use Rattle.laws.specs.Lemmas.Reader.{tab-part, length-tab}
+use Rattle.laws.specs.Lemmas.Reader.{tab-part}
 use Rattle.layout.specs.declared.Layout.{Layout}
 use Rattle.layout.specs.Layouts.{slotOffset}
 use Rattle.layout.specs.Right.{LayoutRight}
@@ -20,6 +20,7 @@ use Rattle.names.specs.NameLaws.{length-name}
 use Rattle.view.specs.Disk.{File, used}
 use Rattle.laws.specs.Refusals.{refusalAt}
 use Rattle.image.specs.Image.{entryAt, viewOf, filesIn, DiskRules}
+use Rattle.image.specs.Lemmas.Entries.{length-area}
 use Rattle.record.specs.Record.{fileAt, listing}
 use Rattle.calls.specs.declared.Listed.{Listed}
 use Rattle.calls.specs.declared.Entry.the-variants as entries
@@ -36,16 +37,12 @@ lent-area img at h = let e : at + 16 - at ≡ 16 = omega arith in rw e (sym (tab
 
 module _ (l : Layout) (right : LayoutRight l) (img : List ℕ) (rules : DiskRules l img) (s : ℕ) (inside : s < l .slots)
     (here : used (viewOf l (bytes img) .entry s) ≡ true) where
-  length-area : length (viewOf l (bytes img) .entry s .area) ≡ 16
-  unfolding entryAt
-  length-area = length-tab (bytes img) (slotOffset l s) 16
-
   pub lists-file : {letter size : ℕ} {name : List ℕ} → letter ≡ viewOf l (bytes img) .entry s .type → size ≡ viewOf l (bytes img) .entry s .size
       → name ≡ padded (nameOf l (viewOf l (bytes img) .entry s .area)) 12
       → Lists img (listing img (fileAt l (filesIn l img) s)) (record { entry = entries.File (l .letters) letter size; name = name })
   lists-file t z n =
       let given = nameOf l (viewOf l (bytes img) .entry s .area) in
-      let long : length given ≡ l .letters = length-name l right (viewOf l (bytes img) .entry s .area) length-area in
+      let long : length given ≡ l .letters = length-name l right (viewOf l (bytes img) .entry s .area) (length-area (bytes img) (slotOffset l s)) in
       let front : take (l .letters) (padded given 12) ≡ given = ap (λ (k : ℕ). take k (padded given 12)) (sym long) ∙ take-padded given 12 in
       rw (file-used l img s inside here) (record {
         answer = rw (t, z, n, front, file-length l img s right rules inside here) refl;

@@ -8,7 +8,7 @@ use lib.ListN.{length, getD, replicate, List·getD-append, length-append}
 use lib.Seq.{getD-append-add}
 use Rattle.laws.specs.Lemmas.Splice.{getD-splice-in}
 use Rattle.laws.specs.Reader.{bytes, tab}
-use Rattle.laws.specs.Lemmas.Reader.{Agree, tab-is, tab-cong}
+use Rattle.laws.specs.Lemmas.Reader.{Agree, length-tab, tab-is, tab-cong}
 use Rattle.blocks.specs.Numbers.{digits}
 use Rattle.blocks.specs.Lemmas.Numbers.{length-digits, number-cong, number-is}
 use Rattle.view.specs.Disk.{Entry}
@@ -23,6 +23,10 @@ entry-cong b c at h =
       number-cong 3 b c (at + 17) (λ i p q. h i (omega arith) (omega arith)),
       number-cong 2 b c (at + 20) (λ i p q. h i (omega arith) (omega arith)),
     ) refl
+
+pub length-area : (b : ℕ → ℕ) (at : ℕ) → length (entryAt b at .area) ≡ 16
+unfolding entryAt
+length-area b at = length-tab b at 16
 
 pub erased-type : (img : List ℕ) (at : ℕ) → at + 22 ≤ length img → entryAt (bytes (eraseEntry img at)) at .type ≡ 0
 unfolding eraseEntry entryAt

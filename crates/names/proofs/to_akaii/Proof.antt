@@ -41,24 +41,36 @@ returns-7 c =
     rw (within-above 48 57 a (omega arith), within-in 65 90 a (omega arith) (omega arith)) refl
 
 returns-8 : tie.Need-returns-8
+unfolding akaiiOf
 returns-8 c =
-    let a = c .before .before .args .ascii in
-    sym (akaii-other a (within-below 48 57 a (omega arith)) (within-below 65 90 a (omega arith)) (c .before .match .rest))
+    let a = c .before .before .before .before .before .before .before .args .ascii in
+    rw (within-above 48 57 a (omega arith), within-above 65 90 a (omega arith), within-in 97 122 a (omega arith) (omega arith)) refl
 
 returns-9 : tie.Need-returns-9
 returns-9 c =
-    let a = c .before .before .before .before .args .ascii in
-    sym (akaii-other a (within-above 48 57 a (omega arith)) (within-below 65 90 a (omega arith)) (c .before .before .before .match .rest))
+    let a = c .before .before .args .ascii in
+    sym (akaii-other a (within-below 48 57 a (omega arith)) (within-below 65 90 a (omega arith)) (within-below 97 122 a (omega arith)) (c .before .match .rest))
 
 returns-10 : tie.Need-returns-10
 returns-10 c =
-    let a = c .before .before .before .before .before .args .ascii in
-    sym (akaii-other a (within-above 48 57 a (omega arith)) (within-above 65 90 a (omega arith)) (c .before .before .before .before .match .rest))
+    let a = c .before .before .before .before .args .ascii in
+    sym (akaii-other a (within-above 48 57 a (omega arith)) (within-below 65 90 a (omega arith)) (within-below 97 122 a (omega arith)) (c .before .before .before .match .rest))
+
+returns-11 : tie.Need-returns-11
+returns-11 c =
+    let a = c .before .before .before .before .before .before .args .ascii in
+    sym (akaii-other a (within-above 48 57 a (omega arith)) (within-above 65 90 a (omega arith)) (within-below 97 122 a (omega arith)) (c .before .before .before .before .before .match .rest))
+
+returns-12 : tie.Need-returns-12
+returns-12 c =
+    let a = c .before .before .before .before .before .before .before .args .ascii in
+    sym (akaii-other a (within-above 48 57 a (omega arith)) (within-above 65 90 a (omega arith)) (within-above 97 122 a (omega arith)) (c .before .before .before .before .before .before .match .rest))
 
 pub to-akaii-spec : {M : Type 1} → statement M
 to-akaii-spec =
     tie.close
     (tie.spec
+    (λ c. search needs)
     (λ c. search needs)
     returns
     returns-2
@@ -69,4 +81,6 @@ to-akaii-spec =
     returns-7
     returns-8
     returns-9
-    returns-10)
+    returns-10
+    returns-11
+    returns-12)

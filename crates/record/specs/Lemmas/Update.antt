@@ -24,7 +24,7 @@ use Rattle.layout.specs.declared.Layout.{Layout}
 use Rattle.layout.specs.Layouts.{slotOffset, blockOffset}
 use Rattle.layout.specs.Right.{LayoutRight}
 use Rattle.blocks.specs.Blocks.{blocksFor}
-use Rattle.names.specs.Names.{legalType, legalArea, areaOf, nameOf}
+use Rattle.names.specs.Names.{legalType, legalArea, areaOf, nameOf, capitals}
 use Rattle.names.specs.NameLaws.{length-area, area-legal, name-back}
 use Rattle.map.specs.Map.{Data, mapAt, freeBlocks, freeCount}
 use Rattle.map.specs.Lemmas.Free.{in-free, free-distinct, free-count}
@@ -36,14 +36,14 @@ use Rattle.view.specs.Lemmas.Remove.{Removed, remove-valid, remove-gone, remove
 use Rattle.view.specs.Lemmas.Put.{Fresh, Stored, put-valid, put-here, put-others}
 use Rattle.image.specs.Image.{entryAt, viewOf, filesIn, DiskRules, removeImage, chosen, newEntry, putImage}
 use Rattle.image.specs.Lemmas.Effect.{removed, remove-length, remove-identity, stored, put-length, put-identity}
-use Rattle.record.specs.Record.{named, isEmpty, replaced, slotOf, emptySlot, free, judgeName, judgePut}
+use Rattle.record.specs.Record.{named, keptFile, isEmpty, replaced, slotOf, emptySlot, free, judgeName, judgePut}
 use Rattle.record.specs.declared.Judged.the-variants.{Grant}
 use Rattle.record.specs.Lemmas.Granted.{Puts, granted-name, granted-put}
 
 -- ---- slots and their files
 
 -- a slot with a named file is used, and a used slot with the name is named
-named-used : (l : Layout) (v : View) (name : List ℕ) (t : ℕ) → t < l .slots → named name (filesOf l v t) ≡ true → used (v .entry t) ≡ true
+named-used : (l : Layout) (v : View) (name : List ℕ) (t : ℕ) → t < l .slots → named l name (filesOf l v t) ≡ true → used (v .entry t) ≡ true
 unfolding filesOf
 named-used l v name t h e = go (used (v .entry t)) refl
   where
@@ -51,9 +51,9 @@ named-used l v name t h e = go (used (v .entry t)) refl
     go true p = p
     go false p = absurd (true≢false (sym (rw (lt-ltb t (l .slots) h, p) at e)))
 
-used-named : (l : Layout) (v : View) (name : List ℕ) (t : ℕ) → Used l v t → nameOf l (v .entry t .area) ≡ name → named name (filesOf l v t) ≡ true
+used-named : (l : Layout) (v : View) (name : List ℕ) (t : ℕ) → Used l v t → nameOf l (v .entry t .area) ≡ capitals l name → named l name (filesOf l v t) ≡ true
 unfolding filesOf
-used-named l v name t u e = rw (lt-ltb t (l .slots) (u .0), u .1, e) (same-refl name)
+used-named l v name t u e = rw (lt-ltb t (l .slots) (u .0), u .1, e) (same-refl (capitals l name))
 
 -- a slot is empty in the record exactly if its entry isn't used
 pub empty-used : (l : Layout) (v : View) (t : ℕ) → t < l .slots → isEmpty (filesOf l v t) ≡ not (used (v .entry t))
@@ -93,7 +93,7 @@ module _ (l : Layout) (right : LayoutRight l) (img : List ℕ) (rules : DiskRule
     pub remove-slot : Used l (viewOf l (bytes img)) s
     unfolding slotOf
     remove-slot =
-        let w = at→ (λ t. named name (filesIn l img t)) 0 (l .slots) s (granted-name l (filesIn l img) name s granted) in
+        let w = at→ (λ t. named l name (filesIn l img t)) 0 (l .slots) s (granted-name l (filesIn l img) name s granted) in
         (omega (arith, w .1), named-used l (viewOf l (bytes img)) name s (omega (arith, w .1)) (w .2))
 
     pub remove-inside : (b : ℕ) → In b (entryChain (mapAt (bytes img)) (entryAt (bytes img) (slotOffset l s))) → Data l b
@@ -185,7 +185,7 @@ module _ (l : Layout) (right : LayoutRight l) (img : List ℕ) (rules : DiskRule
     new-name : (t : ℕ) → Used l (viewOf l (bytes img)) t → entryAt (bytes img) (slotOffset l t) .area ≡ new .area → ⊥
     new-name t u e =
         clash (used-named l (viewOf l (bytes img)) name t u (ap (nameOf l) (e ∙ new-area) ∙ name-back l right name (passed .name-legal)))
-        (nowhere→ (λ x. named name (filesIn l img x)) 0 (l .slots) (unfold slotOf in passed .new-name) t (omega arith) (omega (arith, u .0)))
+        (nowhere→ (λ x. named l name (filesIn l img x)) 0 (l .slots) (unfold slotOf in passed .new-name) t (omega arith) (omega (arith, u .0)))
 
     put-fresh : Fresh l (viewOf l (bytes img)) s new ks content
     unfolding newEntry
@@ -221,12 +221,12 @@ module _ (l : Layout) (right : LayoutRight l) (img : List ℕ) (rules : DiskRule
       valid = put-valid l right (viewOf l (bytes img)) (viewOf l (bytes after)) s new ks content (rules .valid) put-fresh put-effect;
     }
 
-    pub put-files : (t : ℕ) → filesIn l after t ≡ replaced (filesIn l img) s (some (record { name = name; type = type; content = content })) t
+    pub put-files : (t : ℕ) → filesIn l after t ≡ replaced (filesIn l img) s (some (keptFile l name type content)) t
     put-files =
         let v = viewOf l (bytes img) in
         let w = viewOf l (bytes after) in
-        let n : nameOf l (new .area) ≡ name = ap (nameOf l) new-area ∙ name-back l right name (passed .name-legal) in
+        let n : nameOf l (new .area) ≡ capitals l name = ap (nameOf l) new-area ∙ name-back l right name (passed .name-legal) in
         let y : new .type ≡ type = unfold newEntry in refl in
-        files-replaced l v w s (some (record { name = name; type = type; content = content })) (put-slot .0)
+        files-replaced l v w s (some (keptFile l name type content)) (put-slot .0)
         (put-here l right v w s new ks content (rules .valid) put-fresh put-effect ∙ rw (n, y) refl)
         (put-others l right v w s new ks content (rules .valid) put-fresh put-effect)

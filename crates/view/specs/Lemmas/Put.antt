@@ -44,7 +44,12 @@ pub record Stored (l : Layout) (v : View) (s : ℕ) (e : Entry) (bs content : Li
   pub block : (b : ℕ) → Data l b → (In b bs → ⊥) → w .block b ≡ v .block b
   pub bytes : take (length content) (readBlocks (w .block) bs) ≡ content
 
--- a well formed entry is in use: 0 is no type
+-- a well formed entry has a legal name
+pub formed-area : (l : Layout) (e : Entry) → formed l e ≡ true → legalArea l (e .area) ≡ true
+unfolding formed
+formed-area l e h = both-true (legalArea l (e .area)) (both (legalType l (e .type)) (leb 1 (e .size))) h .0
+
+-- and is in use: 0 is no type
 pub formed-used : (l : Layout) → LayoutRight l → (e : Entry) → formed l e ≡ true → used e ≡ true
 unfolding formed used legalType
 formed-used l right e h =

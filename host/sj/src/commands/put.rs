@@ -92,9 +92,10 @@ pub fn refuse_empty(arguments: &Arguments, name: &str) -> Result<(), Failure> {
 
 fn put_all(about: &str, image: &mut Image, files: &[New], replace: bool) -> Result<Vec<Entry>, Failure> {
     let kind = image.check().map_err(|refusal| Failure::refused(about, refusal))?.kind;
+    let kept = |file: &New| select::folded(kind, &select::padded(kind, &file.name));
     let mut names = HashSet::new();
-    if let Some(twice) = files.iter().find(|file| !names.insert(select::padded(kind, &file.name))) {
-        return Err(Failure::usage(format!("{} is the name of two of the files", plain(&twice.name))));
+    if let Some(twice) = files.iter().map(kept).find(|name| !names.insert(name.clone())) {
+        return Err(Failure::usage(format!("{} is the name of two of the files", plain(twice.trim_end()))));
     }
     files.iter().map(|file| put_one(about, image, kind, file, replace)).collect()
 }

@@ -116,8 +116,9 @@ pub const COMMANDS: [Command; 11] = [
         about: "Copies files out of an image, whole or not at all",
         flags: &[&TO, &ALL, &FORCE_OUT],
         notes: "'#0' is the file in slot 0 (in quotes, as a shell takes # for a comment). * and ? in a name stand for any \
-                characters and for one. Without -o a file gets its name and its type, NAME.t, and replaces nothing \
-                that is there but by --force. Of several files -o names the folder.",
+                characters and for one. On an S1000 disk small letters stand for capitals, in patterns too; S900 names keep \
+                their case. Without -o a file gets its name and its type, NAME.t, and replaces nothing that is there \
+                but by --force. Of several files -o names the folder.",
         run: get::run,
     },
     Command {
@@ -126,8 +127,8 @@ pub const COMMANDS: [Command; 11] = [
         about: "Puts files into an image, all or none, and tells their slots",
         flags: &[&NAME, &TYPE, &REPLACE, &EMPTY, &FORCE_IN, &TIMEOUT],
         notes: "Name and type are those of a file called NAME.t, as get writes it, or for one file what the options \
-                say. With --replace a file that has the name goes when its successor is in; if that is refused it \
-                stays.",
+                say. An S1000 disk keeps a name in capitals, however it is typed; an S900 disk keeps its case. With \
+                --replace a file that has the name goes when its successor is in; if that is refused it stays.",
         run: put::run,
     },
     Command {
@@ -135,7 +136,8 @@ pub const COMMANDS: [Command; 11] = [
         usage: &["sj mv IMAGE OLD NEW"],
         about: "Gives a file another name",
         flags: &[&REPLACE, &EMPTY, &FORCE_IN, &TIMEOUT],
-        notes: "OLD is a name or a slot, as '#0'. The content and the type stay; the slot may be another, and is told.",
+        notes: "OLD is a name or a slot, as '#0'. An S1000 disk keeps NEW in capitals. The content and the type stay; the \
+                slot may be another, and is told.",
         run: change::rename,
     },
     Command {
@@ -143,7 +145,8 @@ pub const COMMANDS: [Command; 11] = [
         usage: &["sj rm IMAGE NAME|'#SLOT'.."],
         about: "Removes files from an image, all or none",
         flags: &[&FORCE_IN, &TIMEOUT],
-        notes: "'#0' is the file in slot 0; * and ? in a name stand for any characters and for one.",
+        notes: "'#0' is the file in slot 0; * and ? in a name stand for any characters and for one. On an S1000 disk small \
+                letters stand for capitals.",
         run: change::remove,
     },
     Command {
@@ -170,7 +173,7 @@ pub const COMMANDS: [Command; 11] = [
         notes: "The WAV file has one channel and 16 bits a word. Its rate is taken, its words, and the root note and loops of \
                 its smpl chunk if it has one; the rest is the other sample's. An end marker after the last word is there \
                 again; any other marker, or loop, that lies past the words is refused, or moved back by --clip-loops. \
-                No file that is read is replaced.",
+                An S1000 sample's name is in capitals, however it is typed. No file that is read is replaced.",
         run: samples::pack,
     },
     Command {

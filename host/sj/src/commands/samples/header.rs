@@ -1,6 +1,7 @@
 //! A sample's header, whichever sampler's: its fields, and the markers that must lie within the words.
 
 use crate::failure::counting;
+use crate::select;
 use skilletjay::{Kind, sample};
 
 /// The header of a sample file that the library accepts.
@@ -87,14 +88,15 @@ impl Header {
         self.set_two(fields.rate, rate);
     }
 
-    /// Sets the name, which is legal for the kind, and pads it.
+    /// Sets the name, which is legal for the kind, and pads it. An S1000's is in capitals.
     pub fn set_name(&mut self, name: &str) {
-        let at = self.fields().name;
+        let (at, name) = (self.fields().name, select::folded(self.kind, name));
         let code = |byte: u8| match self.kind {
             Kind::S900 => byte,
             Kind::S1000 => AKAII.iter().position(|&known| known == byte).unwrap_or(0) as u8,
         };
-        let codes: Vec<u8> = self.kind.padded(name).bytes().take(self.kind.name_length()).map(code).collect();
+        let codes: Vec<u8> =
+            self.kind.padded(&name).bytes().take(self.kind.name_length()).map(code).collect();
         self.bytes[at..at + codes.len()].copy_from_slice(&codes);
     }
 
