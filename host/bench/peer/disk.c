@@ -185,13 +185,14 @@ sj_checked peer_check(const uint8_t *image, size_t image_len) {
 
 static const char AKAII[] = "0123456789 ABCDEFGHIJKLMNOPQRSTUVWXYZ#+-.";
 
-/* A name's 16 bytes on the disk, if it is legal. */
+/* A name's 16 bytes on the disk, if it is legal. On S1000 disks a to z are taken as A to Z. */
 static bool name_area(const layout *disk, const uint8_t *name, size_t length, uint8_t *area) {
     if (length != disk->letters)
         return false;
     memset(area, disk->pad, 16);
     for (size_t i = 0; i < length; i++) {
-        const char *code = disk->kind == 1000 ? memchr(AKAII, name[i], sizeof AKAII - 1) : NULL;
+        uint8_t capital = name[i] >= 'a' && name[i] <= 'z' ? name[i] - 32 : name[i];
+        const char *code = disk->kind == 1000 ? memchr(AKAII, capital, sizeof AKAII - 1) : NULL;
         if (disk->kind == 1000 ? code == NULL : name[i] < 32 || name[i] > 126)
             return false;
         area[i] = disk->kind == 1000 ? (uint8_t)(code - AKAII) : name[i];

@@ -44,13 +44,16 @@ pub fn same_check(image: &[u8]) {
     assert_eq!(LIBRARY.check(image), PEER.check(image), "check");
 }
 
-/// Puts and removes, legal and not.
+/// Puts and removes, legal and not, by the same name in more than one spelling.
 fn changes(mut image: Vec<u8>, kind: Kind, random: &mut Random) {
     let mut copy = image.clone();
     for _ in 0..12 {
         let mut name = maker::legal_name(kind, random);
+        if random.one_in(2) {
+            name = maker::respelt(&name, random);
+        }
         if random.one_in(8) {
-            name[3] = 200;
+            name[3] = random.pick(&[200, b'@', b'[', b'`', b'{']);
         }
         let file_type = if random.one_in(8) { b'!' } else { maker::legal_type(kind, random) };
         let size = random.pick(&[0, 1, 1024, 1025, 50_000, 1_000_000]);
@@ -58,6 +61,9 @@ fn changes(mut image: Vec<u8>, kind: Kind, random: &mut Random) {
         let put = LIBRARY.put(&mut image, &name, file_type, &content);
         assert_eq!(put, PEER.put(&mut copy, &name, file_type, &content), "put");
         if random.one_in(3) {
+            let name = maker::respelt(&name, random);
+            let again = LIBRARY.put(&mut image, &name, file_type, b"again");
+            assert_eq!(again, PEER.put(&mut copy, &name, file_type, b"again"), "put again");
             assert_eq!(LIBRARY.remove(&mut image, &name), PEER.remove(&mut copy, &name), "remove");
         }
         assert!(image == copy, "images part");

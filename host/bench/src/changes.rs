@@ -8,11 +8,15 @@ use model::layout::Kind;
 use model::random::Random;
 use std::time::{Duration, Instant};
 
-/// Times a put and a remove by turns, on a disk with 32 files whose free blocks lie scattered.
+/// Times a put and a remove by turns, on a disk with 32 files whose free blocks lie scattered; once by a name in small
+/// letters.
 pub fn run(table: &mut Table) {
-    for (size, said) in [(1000, "1 KB"), (1_000_000, "1 MB")] {
+    let capitals = name(Kind::S1000, 90);
+    let small = capitals.to_ascii_lowercase();
+    for (name, size, said) in
+        [(&capitals, 1000, "1 KB"), (&small, 1000, "1 KB, small letters"), (&capitals, 1_000_000, "1 MB")]
+    {
         let content = &Random::new(3).bytes(size);
-        let name = &name(Kind::S1000, 90);
         let fresh = disk(Kind::S1000, 32, 560, Order::Scattered);
         let [mut ours, mut theirs] = [fresh.clone(), fresh];
         for (what, timed) in [("put", Timed::Put), ("remove", Timed::Remove)] {
