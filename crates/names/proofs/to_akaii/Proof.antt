@@ -8,26 +8,6 @@ use Rattle.laws.specs.Lemmas.Truth.{within-in, within-below, within-above}
 use Rattle.names.proofs.to_akaii.Statement.{statement}
 use Rattle.names.proofs.to_akaii.Tie as tie
 
-returns : tie.Need-returns
-unfolding akaiiOf
-returns c = rw (c .match .keys1) refl
-
-returns-2 : tie.Need-returns-2
-unfolding akaiiOf
-returns-2 c = rw (c .match .keys2) refl
-
-returns-3 : tie.Need-returns-3
-unfolding akaiiOf
-returns-3 c = rw (c .match .keys3) refl
-
-returns-4 : tie.Need-returns-4
-unfolding akaiiOf
-returns-4 c = rw (c .match .keys4) refl
-
-returns-5 : tie.Need-returns-5
-unfolding akaiiOf
-returns-5 c = rw (c .match .keys5) refl
-
 returns-6 : tie.Need-returns-6
 unfolding akaiiOf
 returns-6 c =
@@ -67,16 +47,17 @@ returns-12 c =
     sym (akaii-other a (within-above 48 57 a (omega arith)) (within-above 65 90 a (omega arith)) (within-above 97 122 a (omega arith)) (c .before .before .before .before .before .before .match .rest))
 
 pub to-akaii-spec : {M : Type 1} → statement M
+unfolding akaiiOf
 to-akaii-spec =
     tie.close
     (tie.spec
     (λ c. search needs)
     (λ c. search needs)
-    returns
-    returns-2
-    returns-3
-    returns-4
-    returns-5
+    (λ c. rw (c .match .keys1) refl)
+    (λ c. rw (c .match .keys2) refl)
+    (λ c. rw (c .match .keys3) refl)
+    (λ c. rw (c .match .keys4) refl)
+    (λ c. rw (c .match .keys5) refl)
     returns-6
     returns-7
     returns-8

@@ -8,26 +8,6 @@ use Rattle.laws.specs.Lemmas.Truth.{within-in, within-above}
 use Rattle.names.proofs.to_ascii.Statement.{statement}
 use Rattle.names.proofs.to_ascii.Tie as tie
 
-returns : tie.Need-returns
-unfolding asciiOf
-returns c = rw (c .match .keys1) refl
-
-returns-2 : tie.Need-returns-2
-unfolding asciiOf
-returns-2 c = rw (c .match .keys2) refl
-
-returns-3 : tie.Need-returns-3
-unfolding asciiOf
-returns-3 c = rw (c .match .keys3) refl
-
-returns-4 : tie.Need-returns-4
-unfolding asciiOf
-returns-4 c = rw (c .match .keys4) refl
-
-returns-5 : tie.Need-returns-5
-unfolding asciiOf
-returns-5 c = rw (c .match .keys5) refl
-
 returns-6 : tie.Need-returns-6
 unfolding asciiOf
 returns-6 c =
@@ -47,16 +27,17 @@ returns-8 c =
     sym (ascii-other k (within-above 0 9 k (omega arith)) (within-above 11 36 k (omega arith)) (c .before .before .match .rest))
 
 pub to-ascii-spec : {M : Type 1} → statement M
+unfolding asciiOf
 to-ascii-spec =
     tie.close
     (tie.spec
     (λ c. search needs)
     (λ c. search needs)
-    returns
-    returns-2
-    returns-3
-    returns-4
-    returns-5
+    (λ c. rw (c .match .keys1) refl)
+    (λ c. rw (c .match .keys2) refl)
+    (λ c. rw (c .match .keys3) refl)
+    (λ c. rw (c .match .keys4) refl)
+    (λ c. rw (c .match .keys5) refl)
     returns-6
     returns-7
     returns-8)
