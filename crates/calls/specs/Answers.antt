@@ -10,10 +10,12 @@ use Rattle.record.specs.declared.Judged.the-variants.{Refuse, Grant}
 use Rattle.laws.specs.declared.Refusal.{Refusal}
 use Rattle.rules.specs.declared.Checked.the-variants.{Refused}
 use Rattle.rules.specs.Check.{came}
+use Rattle.pages.specs.Cost.{noCost}
 use Rattle.calls.specs.declared.Found.{Found}
 use Rattle.calls.specs.declared.Found.the-variants as found
 use Rattle.calls.specs.declared.Paged.{Paged}
 use Rattle.calls.specs.declared.Paged.the-variants as pages
+use Rattle.calls.specs.declared.Metered.{Metered}
 use Rattle.calls.specs.declared.Removed.{Removed}
 use Rattle.calls.specs.declared.Removed.the-variants as removals
 use Rattle.calls.specs.declared.Entry.{Entry}
@@ -34,6 +36,10 @@ foundBy (Grant slot) = found.At slot
 abbrev pub pagedOf : Paged → Answer
 pagedOf (pages.Page count end) = paged count end
 pagedOf (pages.Refused r) = refusedBy r
+
+-- A page that was refused, which cost nothing.
+abbrev pub unpagedBy : Refusal → Metered
+unpagedBy r = record { paged = pages.Refused r; cost = noCost }
 
 -- Remove's.
 abbrev pub removedOf : Removed → Answer

@@ -1,3 +1,5 @@
 pub mod Answers
+pub mod Metered
 pub mod Made
+pub mod Costs
 pub mod Lemmas

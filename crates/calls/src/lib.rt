@@ -13,7 +13,8 @@ ghost use Rattle.names.specs.Names.{legalName};
 ghost use Rattle.laws.specs.Refusals.{refusalAt};
 ghost use mathlib.Core.Bool.{true};
 ghost use Rattle.rules.specs.Check.{came, callOf};
-ghost use Rattle.calls.specs.Answers.{foundOf, foundBy, pagedOf, Lists, unlistedBy, listCall, findCall, pageCall, putCall, removeCall, removedOf};
+ghost use Rattle.calls.specs.Answers.{foundOf, foundBy, pagedOf, Lists, unlistedBy, unpagedBy, listCall, findCall, pageCall, putCall, removeCall, removedOf};
+ghost use Rattle.calls.specs.Metered.{pageCost, costIn};
 
 // A slot, or a refusal.
 pub enum Found {
@@ -25,6 +26,12 @@ pub enum Found {
 pub enum Paged {
     Page { count: usize, end: bool },
     Refused(laws::Refusal),
+}
+
+// What a page answers, and what it cost.
+pub struct Metered {
+    pub paged: Paged,
+    pub cost: pages::Cost,
 }
 
 // Done, or a refusal.
@@ -207,33 +214,44 @@ fn judge_put(
     judge_room(free, size, slot)
 }
 
-// A page of a slot's file of an accepted image: 10, 17.
+// A page that was refused, for which nothing was followed or copied.
+fn unpaged(refusal: laws::Refusal) -> Metered
+    ensures { λ r. ⌜ r ≡ unpagedBy refusal ⌝ }
+{
+    Metered {
+        paged: Paged::Refused(refusal),
+        cost: pages::Cost { links: 0, runs: 0 },
+    }
+}
+
+// A page of a slot's file of an accepted image, with what it cost: 10, 17.
 fn page_slot(
     image: &[u8],
     layout: layout::Layout,
     slot: usize,
     offset: usize,
     out: &mut [u8],
-) -> Paged
+) -> Metered
     requires { ⌜ LayoutRight layout × DiskRules layout (now image) ⌝ }
-    ensures { λ r. ⌜ came (pagedOf r) (now (out .exit)) (now (image .entry)) ≡ paging (now (image .entry)) (fileAt layout (filesIn layout (now (image .entry))) slot) offset (now (out .entry)) ⌝ }
+    ensures { λ r. ⌜ came (pagedOf (r .paged)) (now (out .exit)) (now (image .entry)) ≡ paging (now (image .entry)) (fileAt layout (filesIn layout (now (image .entry))) slot) offset (now (out .entry)) ⌝ }
+    ensures { λ r. ⌜ r .cost ≡ pageCost (fileAt layout (filesIn layout (now (image .entry))) slot) offset (length (now (out .entry))) ⌝ }
 {
     let slots = layout.slots;
     if slots <= slot {
-        return Paged::Refused(laws::Refusal {
+        return unpaged(laws::Refusal {
             number: 10,
             place: 0,
         });
     }
     if !slots::is_used(image, layout, slot) {
-        return Paged::Refused(laws::Refusal {
+        return unpaged(laws::Refusal {
             number: 10,
             place: 0,
         });
     }
     let size = slots::size_of(image, layout, slot);
     if offset > size {
-        return Paged::Refused(laws::Refusal {
+        return unpaged(laws::Refusal {
             number: 17,
             place: 0,
         });
@@ -241,9 +259,10 @@ fn page_slot(
     let start = slots::start_of(image, layout, slot);
     let count = blocks::least(out.len(), size - offset);
     let links = (size - 1) / 1024;
-    pages::page_runs(image, layout, links, start, offset, out, count);
+    let cost = pages::page_runs(image, layout, links, start, offset, out, count);
     let end = offset + count == size;
-    Paged::Page { count, end }
+    let paged = Paged::Page { count, end };
+    Metered { paged, cost }
 }
 
 // What a slot holds.
@@ -295,6 +314,26 @@ pub fn page(image: &[u8], slot: usize, offset: usize, out: &mut [u8]) -> Paged
     } = checked
     else {
         return Paged::Refused(rules::refusal_of(checked));
+    };
+    let layout = layout::layout_of(kind, density);
+    let metered = page_slot(image, layout, slot, offset, out);
+    metered.paged
+}
+
+// The same page, with what it cost.
+pub fn metered_page(image: &[u8], slot: usize, offset: usize, out: &mut [u8]) -> Metered
+    ensures { λ r. ⌜ came (pagedOf (r .paged)) (now (out .exit)) (now (image .entry)) ≡ callOf (now (image .entry)) (pageCall slot offset (now (out .entry))) ⌝ }
+    ensures { λ r. ⌜ r .cost ≡ costIn (now (image .entry)) slot offset (length (now (out .entry))) ⌝ }
+{
+    let checked = disk::check(image);
+    let rules::Checked::Accepted {
+        kind,
+        density,
+        files: _,
+        free: _,
+    } = checked
+    else {
+        return unpaged(rules::refusal_of(checked));
     };
     let layout = layout::layout_of(kind, density);
     page_slot(image, layout, slot, offset, out)

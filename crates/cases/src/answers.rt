@@ -75,12 +75,17 @@ fn print_count(count: usize, end: bool) {
     }
 }
 
-// The line of a page: the answer, then the output, which a refusal must have kept.
-fn print_paged(paged: calls::Paged, out: &[u8]) {
+// A page's answer, without its line's end.
+fn print_answer(paged: calls::Paged) {
     match paged {
         calls::Paged::Page { count, end } => print_count(count, end),
         calls::Paged::Refused(refusal) => print::refusal(refusal),
     }
+}
+
+// The line of a page: the answer, then the output, which a refusal must have kept.
+fn print_paged(paged: calls::Paged, out: &[u8]) {
+    print_answer(paged);
     print_front(out);
     print::number(b" sum ", sum_of(out));
     print::line_end();
@@ -107,4 +112,31 @@ fn page_into(image: &[u8], slot: usize, offset: usize, out: &mut [u8; 4096], siz
 pub(crate) fn page(image: &[u8], slot: usize, offset: usize, size: usize) {
     let mut out = [238u8; 4096];
     page_into(image, slot, offset, &mut out, size);
+}
+
+// The line of a page's cost: the answer, then the cost.
+fn print_metered(metered: calls::Metered) {
+    let paged = metered.paged;
+    let cost = metered.cost;
+    print_answer(paged);
+    print::number(b" links ", cost.links);
+    print::number(b" runs ", cost.runs);
+    print::line_end();
+}
+
+// Pages into the output's first bytes, as many as asked for, and prints what that cost.
+fn cost_part(image: &[u8], slot: usize, offset: usize, out: &mut [u8], size: usize) {
+    if size <= out.len() {
+        print_metered(calls::metered_page(image, slot, offset, &mut out[0..size]));
+    }
+}
+
+fn cost_into(image: &[u8], slot: usize, offset: usize, out: &mut [u8; 65536], size: usize) {
+    cost_part(image, slot, offset, out, size);
+}
+
+// Pages into `size` bytes, at most 65,536, and prints what that cost.
+pub(crate) fn cost(image: &[u8], slot: usize, offset: usize, size: usize) {
+    let mut out = io::large_buffer();
+    cost_into(image, slot, offset, &mut out, size);
 }

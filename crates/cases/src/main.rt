@@ -14,6 +14,7 @@
 //   page SLOT OFFSET SIZE                prints it, the output's first four bytes and a sum over all of its SIZE bytes,
 //                                        which held 238 before: those past the count are seen to be kept,
 //                                        and all of them on a refusal
+//   took SLOT OFFSET SIZE                prints the answer of a page into SIZE bytes, at most 65,536, and what it cost
 mod answers;
 mod build;
 mod line;
@@ -65,6 +66,7 @@ fn ask(image: &[u8], text: &[u8]) {
         b'l' => answers::print_listed(calls::list(image, a.value)),
         b'f' => answers::find(image, text, 5),
         b'p' => answers::page(image, a.value, b.value, c.value),
+        b't' => answers::cost(image, a.value, b.value, c.value),
         _ => {}
     }
 }

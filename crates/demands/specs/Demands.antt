@@ -6,14 +6,15 @@
 --   unpackOf and packOf (samples/specs/Samples), SampleRules (samples/specs/Rules), programOf and ProgramRules (program/specs/Program): the files;
 --   toldOf and turnIn (skilletjay/specs/Told): C's results; listingOf (listing/specs/Listing): the listing program's text;
 --   lastBlock (rules/specs/Mark), Other and Reaches (map/specs/Values): request one;
---   akaiiOf, asciiOf and capital (names/specs/Akaii), capitals (names/specs/Names), keptFile (record/specs/Record), inCapitals (record/specs/Spelling): request two.
+--   akaiiOf, asciiOf and capital (names/specs/Akaii), capitals (names/specs/Names), keptFile (record/specs/Record), inCapitals (record/specs/Spelling): request two;
+--   costOf, blocksHolding and holds (pages/specs/Cost), costIn (calls/specs/Metered): request three.
 -- That the code does so is what each function's contract says, and those are proved with it. Assumes nothing.
 use mathlib.Core.Path.{_≡_, refl}
 use mathlib.Core.Bool.{true, false}
 use mathlib.Core.List.{List, [], _++_, map}
 use mathlib.Core.Option.{none, some}
 use mathlib.Core.Logic.{_↔_}
-use Prim.Native.Nat.{ℕ, _+_, _-_, _≤_, _<_, min}
+use Prim.Native.Nat.{ℕ, _+_, _-_, _*_, _/_, _≤_, _<_, min}
 use native.Mathlib.Omega.{arith}
 use lib.Dec.{eqb}
 use lib.IntN.{ℤ}
@@ -33,6 +34,7 @@ use Rattle.layout.specs.declared.Density.{Density}
 use Rattle.layout.specs.Layouts.{layoutOf, lengthOf, blocksOf, firstOf, mapOffset, blockOffset}
 use Rattle.layout.specs.Right as right
 use Rattle.layout.specs.Right.{layout-right}
+use Rattle.blocks.specs.Blocks.{blocksFor}
 use Rattle.names.specs.declared.Converted.the-variants.{Byte}
 use Rattle.names.specs.Akaii.{akaiiOf, asciiOf, capital}
 use Rattle.names.specs.Akaii as akaii
@@ -66,6 +68,10 @@ use Rattle.rules.specs.Outside.{TouchedBy}
 use Rattle.rules.specs.Mark as mark
 use Rattle.rules.specs.Mark.{lastBlock}
 use Rattle.rules.specs.Spelling as spelling
+use Rattle.pages.specs.Cost as cost
+use Rattle.pages.specs.Cost.{holds, blocksHolding, noCost, costOf}
+use Rattle.calls.specs.Metered.{costIn}
+use Rattle.calls.specs.Costs as costs
 use Rattle.session.specs.Script.{runOf, entries}
 use Rattle.session.specs.Turns as scripts
 use Rattle.session.specs.Turns.{turns, leave}
@@ -342,3 +348,30 @@ spelling-taken = spelling.taken
 pub spelling-removed : (k : Kind) (d : Density) (f n : ℕ) (img : List ℕ) → checkOf img ≡ Accepted k d f n → (slot : ℕ) (file : File) → filesIn (layoutOf k d) img slot ≡ some file
     → (name : List ℕ) → capitals (layoutOf k d) name ≡ file .name → callOf img (remove name) ≡ came done [] (removeImage (layoutOf k d) img slot)
 spelling-removed = spelling.removed
+
+-- ---- Request three: a page carries on from the block it stands in, and what it cost is told
+
+-- What a page answers and gives is as before (`page-bytes`). It costs what its bytes do, by their place in the file; a refused page costs nothing.
+pub page-cost : (k : Kind) (d : Density) (f n : ℕ) (img : List ℕ) → checkOf img ≡ Accepted k d f n → (slot : ℕ) (file : File) → filesIn (layoutOf k d) img slot ≡ some file
+    → (offset room : ℕ) → costIn img slot offset room ≡ costOf (blocksFor (length (file .content))) offset (min room (length (file .content) - offset))
+page-cost = costs.page-cost
+
+pub refused-cost : (img : List ℕ) (slot offset : ℕ) (out : List ℕ) (r : Refusal) → callOf img (page slot offset out) .answer .refusal ≡ some r → costIn img slot offset (length out) ≡ noCost
+refused-cost = costs.refused-cost
+
+-- With bytes: links, the last byte's offset in the file by 1,024; runs, one for each block that holds its bytes. An empty page: 0 and 0.
+pub cost-links : (blocks offset size : ℕ) → 1 ≤ size → costOf blocks offset size .links ≡ (offset + size - 1) / 1024
+cost-links = cost.cost-links
+
+pub cost-runs : (blocks offset size : ℕ) → 1 ≤ size → costOf blocks offset size .runs ≡ blocksHolding blocks offset size
+cost-runs = cost.cost-runs
+
+pub cost-empty : (blocks offset : ℕ) → costOf blocks offset 0 ≡ record { links = 0; runs = 0 }
+cost-empty blocks offset = cost.cost-none blocks offset 0 refl
+
+-- The blocks that hold its bytes: of the file's blocks those in which one of them lies, the last one's number less the first one's, and one.
+pub holds-exactly : (offset size block : ℕ) → (holds offset size block ≡ true) ↔ ((i : ℕ) × (offset ≤ i) × (i < offset + size) × (i / 1024 ≡ block))
+holds-exactly = cost.holds-exactly
+
+pub blocks-between : (blocks offset size : ℕ) → 1 ≤ size → offset + size ≤ 1024 * blocks → blocksHolding blocks offset size ≡ (offset + size - 1) / 1024 - offset / 1024 + 1
+blocks-between = cost.blocks-between

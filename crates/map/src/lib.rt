@@ -1,13 +1,13 @@
 // The map: its values, the blocks of a chain, lists of blocks, and what put and remove do to it.
 // Only the crates above call these. `Fits` is met by the image's checked length, `Chained` by the check's walk of that chain.
 ghost use mathlib.Core.Path.{_≡_};
-ghost use Prim.Native.Nat.{ℕ, _+_, _≤_, _<_};
+ghost use Prim.Native.Nat.{ℕ, _+_, _^_, _≤_, _<_};
 ghost use lib.ListN.{length, take, drop, getD};
 ghost use Rattle.laws.specs.Reader.{bytes};
 ghost use Rattle.laws.specs.Member.{In};
 ghost use Rattle.layout.specs.Right.{LayoutRight};
 ghost use Rattle.layout.specs.Layouts.{mapOffset};
-ghost use Rattle.map.specs.Map.{mapAt, Fits, isLink, chain, Chained, Nth, freeBlocks, Collected, setMap, firstOr, linkBlocks, freeAll, touched, marked};
+ghost use Rattle.map.specs.Map.{mapAt, Fits, isLink, chain, Chained, Follows, Nth, freeBlocks, Collected, setMap, firstOr, linkBlocks, freeAll, touched, marked};
 
 // Blocks: the first `count` of the list.
 pub struct Blocks {
@@ -41,21 +41,31 @@ pub fn is_link(layout: layout::Layout, value: usize) -> bool
     value < layout.blocks
 }
 
-// A block of a faultless chain, counted from 0.
+// Follows a block's link, and counts it where it does.
+fn follow(image: &[u8], block: usize, followed: &mut usize) -> usize
+    requires { ⌜ (mapOffset block + 2 ≤ length (now image)) × (now followed + 1 < 2 ^ 64) ⌝ }
+    ensures { λ r. ⌜ Follows (mapAt (bytes (now (image .entry)))) block (now (followed .entry)) r (now (followed .exit)) ⌝ }
+{
+    *followed += 1;
+    map_at(image, block)
+}
+
+// The n-th block of a faultless chain, from 0 on; the links followed to it are added to those counted.
 pub fn nth_block(
     image: &[u8],
     layout: layout::Layout,
     links: usize,
     start: usize,
     n: usize,
+    followed: &mut usize,
 ) -> usize
-    requires { ⌜ Fits layout (now image) × Chained layout (mapAt (bytes (now image))) links start × (n ≤ links) ⌝ }
-    ensures { λ r. ⌜ Nth layout (mapAt (bytes (now (image .entry)))) links start n r ⌝ }
+    requires { ⌜ Fits layout (now image) × Chained layout (mapAt (bytes (now image))) links start × (n ≤ links) × (now followed + n < 2 ^ 64) ⌝ }
+    ensures { λ r. ⌜ Nth layout (mapAt (bytes (now (image .entry)))) links start n (now (followed .entry)) r (now (followed .exit)) ⌝ }
 {
     let mut block = start;
     let mut k = 0;
     while k < n {
-        block = map_at(image, block);
+        block = follow(image, block, followed);
         k += 1;
     }
     block

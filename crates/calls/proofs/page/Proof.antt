@@ -28,7 +28,7 @@ returns-2 c =
     let y = g .before .before in
     let k = y .before .before .before .before in
     let a = k .before .before .before .args in
-    g .page-slot .ensures ∙ page-done (now (a .image)) (k .check .ensures) (y .before .before .checked .given .1) (y .layout-of .ensures) (a .slot) (a .offset) _
+    g .page-slot .ensures .0 ∙ page-done (now (a .image)) (k .check .ensures) (y .before .before .checked .given .1) (y .layout-of .ensures) (a .slot) (a .offset) _
 
 pub page-spec : {M : Type 1} → statement M
 page-spec =

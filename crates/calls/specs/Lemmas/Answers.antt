@@ -3,17 +3,20 @@
 use mathlib.Core.Path.{_≡_, refl, sym}
 use mathlib.Core.List.{List}
 use Prim.Native.Nat.{ℕ}
+use lib.ListN.{length}
 use Rattle.laws.specs.Lemmas.Padded.{padded-nil}
 use Rattle.layout.specs.declared.Kind.{Kind}
 use Rattle.layout.specs.declared.Density.{Density}
-use Rattle.record.specs.Record.{shapeOf, Call, list, refusedBy}
+use Rattle.record.specs.Record.{shapeOf, Call, list, page, refusedBy}
 use Rattle.record.specs.Step.{stepImage}
 use Rattle.laws.specs.declared.Refusal.{Refusal}
 use Rattle.rules.specs.declared.Checked.{Checked}
 use Rattle.rules.specs.declared.Checked.the-variants.{Accepted, Refused}
 use Rattle.rules.specs.Check.{checkOf, refusalOf, lent, came, callOf}
 use Rattle.calls.specs.declared.Listed.{Listed}
-use Rattle.calls.specs.Answers.{Lists, unlistedBy}
+use Rattle.calls.specs.declared.Metered.{Metered}
+use Rattle.calls.specs.Answers.{pagedOf, Lists, unlistedBy, unpagedBy}
+use Rattle.calls.specs.Metered.{costIn}
 
 -- ---- by the check's answer
 
@@ -28,3 +31,9 @@ call-accepted img call e a = rw (← e, a) refl
 -- a listing of a refused image
 pub lists-refused : (img : List ℕ) (s : ℕ) {c : Checked} {r q : Refusal} {w : Listed} → c ≡ checkOf img → c ≡ Refused r → q ≡ refusalOf c → w ≡ unlistedBy q → Lists img (callOf img (list s)) w
 lists-refused img s e t u v = rw (v, ← call-refused img (list s) e t u) (record { answer = refl; letters = refl; name = sym (padded-nil 12) })
+
+-- a metered page of one
+pub meters-refused : (img : List ℕ) (s offset : ℕ) (out : List ℕ) {c : Checked} {r q : Refusal} {w : Metered} → c ≡ checkOf img → c ≡ Refused r → q ≡ refusalOf c → w ≡ unpagedBy q
+    → (came (pagedOf (w .paged)) out img ≡ callOf img (page s offset out)) × (w .cost ≡ costIn img s offset (length out))
+unfolding costIn
+meters-refused img s offset out e t u v = rw v (call-refused img (page s offset out) e t u, rw (← e, t) refl)

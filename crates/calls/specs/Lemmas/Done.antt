@@ -34,6 +34,7 @@ use Rattle.rules.specs.declared.Checked.the-variants.{Accepted}
 use Rattle.rules.specs.Check.{came, checkOf, callOf}
 use Rattle.rules.specs.Accepted.{accepted-rules, accepted-counts}
 use Rattle.calls.specs.Answers.{foundOf, foundBy}
+use Rattle.calls.specs.Metered.{pageCost, costIn}
 use Rattle.calls.specs.Lemmas.Answers.{call-accepted}
 use Rattle.calls.specs.declared.Found.{Found}
 use Rattle.calls.specs.Lemmas.Paging.{size-some}
@@ -124,6 +125,10 @@ module _ (img : List ℕ) {c : Checked} {k : Kind} {d : Density} {f n : ℕ} (ch
 
   pub page-done : (s offset : ℕ) (out : List ℕ) → paging img (fileAt l (filesIn l img) s) offset out ≡ callOf img (page s offset out)
   page-done s offset out = rw made (sym (call-accepted img (page s offset out) checked yes ∙ step-page (shapeOf k d) img s offset out))
+
+  pub cost-done : (s offset room : ℕ) → pageCost (fileAt l (filesIn l img) s) offset room ≡ costIn img s offset room
+  unfolding costIn
+  cost-done s offset room = rw (made, ← checked, yes) refl
 
   -- put and remove, j being the call's judgement
   module _ (name : List ℕ) (type : ℕ) (content : List ℕ) {j : Judged} (judged : j ≡ judgePut l (filesIn l img) name type content) where

@@ -17,13 +17,19 @@ use Rattle.laws.specs.Lemmas.Reader.{length-tab}
 use Rattle.layout.specs.declared.Layout.{Layout}
 use Rattle.layout.specs.Layouts.{blockOffset}
 use Rattle.layout.specs.Right.{LayoutRight}
-use Rattle.blocks.specs.Blocks.{readBlocks, blockAt}
+use Rattle.blocks.specs.Blocks.{blocksFor, readBlocks, blockAt}
 use Rattle.map.specs.Map.{mapAt, chain, Chained}
 use Rattle.view.specs.Disk.{File, used, entryChain, contentOf}
 use Rattle.view.specs.Lemmas.Counting.{entry-size}
 use Rattle.image.specs.Image.{viewOf, DiskRules}
 use Rattle.record.specs.Record.{paged, refused, paging}
 use Rattle.rules.specs.Check.{came}
+use Rattle.pages.specs.declared.Cost.{Cost}
+use Rattle.pages.specs.Cost.{costOf, cost-none}
+use Rattle.calls.specs.declared.Metered.{Metered}
+use Rattle.calls.specs.declared.Paged.the-variants as pages
+use Rattle.calls.specs.Answers.{pagedOf, unpagedBy}
+use Rattle.calls.specs.Metered.{pageCost}
 use Rattle.calls.specs.Lemmas.Slots.{slotFile, file-length}
 
 -- a part that lies in the front
@@ -41,19 +47,37 @@ splice-front l vs n e h =
 
 -- no file, an offset above the length, and a page; o is the output as it was lent, q afterwards
 module _ (img : List ℕ) (w : Option File) (offset : ℕ) (o : List ℕ) where
-  pub pages-none : {q : List ℕ} → w ≡ none → q ≡ o → came (refused 10 0) q img ≡ paging img w offset o
+  pages-none : {q : List ℕ} → w ≡ none → q ≡ o → came (refused 10 0) q img ≡ paging img w offset o
   pages-none e p = rw (e, p) refl
 
-  pub pages-above : (f : File) (size : ℕ) {q : List ℕ} → w ≡ some f → length (f .content) ≡ size → size < offset → q ≡ o → came (refused 17 0) q img ≡ paging img w offset o
+  pages-above : (f : File) (size : ℕ) {q : List ℕ} → w ≡ some f → length (f .content) ≡ size → size < offset → q ≡ o → came (refused 17 0) q img ≡ paging img w offset o
   pages-above f size e n h p = rw (e, p, lt-ltb (length (f .content)) offset (omega arith)) refl
 
-  pub pages-file : (f : File) (size count : ℕ) {end : Bool} {q : List ℕ} → w ≡ some f → length (f .content) ≡ size → offset ≤ size → count ≡ min (length o) (size - offset)
+  pages-file : (f : File) (size count : ℕ) {end : Bool} {q : List ℕ} → w ≡ some f → length (f .content) ≡ size → offset ≤ size → count ≡ min (length o) (size - offset)
       → end ≡ eqb (offset + count) size → q ≡ splice o 0 (part (f .content) offset count) → came (paged count end) q img ≡ paging img w offset o
   pages-file f size count e n h k t p =
       let whole : length (f .content) ≡ size = n in
       let front : splice o 0 (part (f .content) offset count) ≡ part (f .content) offset count ++ drop count o =
       splice-front o (part (f .content) offset count) count (length-part (f .content) offset count (omega arith)) (omega arith) in
       rw (e, le-ltb (length (f .content)) offset (omega arith), p, front, t, n, k) refl
+
+  -- the same with what it cost
+  abbrev Due : Metered → List ℕ → Type 0
+  Due r q = (came (pagedOf (r .paged)) q img ≡ paging img w offset o) × (r .cost ≡ pageCost w offset (length o))
+
+  pub meters-none : (r : Metered) {q : List ℕ} → w ≡ none → r ≡ unpagedBy (record { number = 10; place = 0 }) → q ≡ o → Due r q
+  meters-none r e t p = rw t (pages-none e p, rw e refl)
+
+  pub meters-above : (r : Metered) (f : File) (size : ℕ) {q : List ℕ} → w ≡ some f → length (f .content) ≡ size → size < offset → r ≡ unpagedBy (record { number = 17; place = 0 }) → q ≡ o → Due r q
+  meters-above r f size e n h t p =
+      rw t (pages-above f size e n h p, rw e (sym (cost-none (blocksFor (length (f .content))) offset (min (length o) (length (f .content) - offset)) (omega arith))))
+
+  pub meters-file : (f : File) (size count : ℕ) {end : Bool} {cost : Cost} {q : List ℕ} → w ≡ some f → length (f .content) ≡ size → 1 ≤ size → offset ≤ size → count ≡ min (length o) (size - offset)
+      → end ≡ eqb (offset + count) size → q ≡ splice o 0 (part (f .content) offset count) → cost ≡ costOf ((size - 1) / 1024 + 1) offset count → Due (record { paged = pages.Page count end; cost = cost }) q
+  meters-file f size count e n least h k t p v =
+      let b : (size - 1) / 1024 + 1 ≡ blocksFor (length (f .content)) = omega arith in
+      let r : min (length o) (size - offset) ≡ min (length o) (length (f .content) - offset) = omega arith in
+      (pages-file f size count e n h k t p, rw e (v ∙ rw (k, r, b) refl))
 
 -- ---- a used slot's chain and bytes, size and start being its entry's
 

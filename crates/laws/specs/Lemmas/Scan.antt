@@ -9,8 +9,8 @@ use native.Mathlib.Numerals.{add-one}
 use native.Mathlib.Omega.{arith}
 use Rattle.laws.specs.declared.Lowest.{Lowest}
 use Rattle.laws.specs.declared.Lowest.the-variants.{At, Nowhere}
-use Rattle.laws.specs.Truth.{pick, both}
-use Rattle.laws.specs.Lemmas.Truth.{clash}
+use Rattle.laws.specs.Truth.{pick, both, within}
+use Rattle.laws.specs.Lemmas.Truth.{clash, within-in, within-below, within-above}
 use Rattle.laws.specs.Scan.{over, lowest, count, all, any, total}
 
 -- ---- the fold
@@ -130,6 +130,26 @@ count-split f i (suc n) = go (count-split f (suc i) n) (f i) refl
     go : count f (suc i) n + count (λ k. not (f k)) (suc i) n ≡ n → (b : Bool) → f i ≡ b → count f i (suc n) + count (λ k. not (f k)) i (suc n) ≡ suc n
     go ih true p = omega (arith, count-yes f i n p, count-no (λ k. not (f k)) i n (rw p refl))
     go ih false p = omega (arith, count-no f i n p, count-yes (λ k. not (f k)) i n (rw p refl))
+
+-- from a number that isn't below low on, those up to high lie between the two
+count-up : (low high i n : ℕ) → low ≤ i → high < i + n → count (within low high) i n ≡ suc high - i
+unfolding count
+count-up low high i zero h k = omega arith
+count-up low high i (suc n) h k = go (count-up low high (suc i) n (omega arith) (omega arith)) (decLt high i)
+  where
+    go : count (within low high) (suc i) n ≡ suc high - suc i → Dec (high < i) → count (within low high) i (suc n) ≡ suc high - i
+    go ih (yes d) = omega (arith, ih, count-no (within low high) i n (within-above low high i d))
+    go ih (no d) = omega (arith, ih, count-yes (within low high) i n (within-in low high i h (omega arith)))
+
+-- a range that holds low and high has all the numbers between the two
+pub count-within : (low high i n : ℕ) → i ≤ low → low ≤ high → high < i + n → count (within low high) i n ≡ high - low + 1
+unfolding count
+count-within low high i zero h k p = absurd (omega arith)
+count-within low high i (suc n) h k p = go (count-within low high (suc i) n) (decLt i low)
+  where
+    go : (suc i ≤ low → low ≤ high → high < suc i + n → count (within low high) (suc i) n ≡ high - low + 1) → Dec (i < low) → count (within low high) i (suc n) ≡ high - low + 1
+    go ih (yes d) = omega (arith, ih (omega arith) k (omega arith), count-no (within low high) i n (within-below low high i d))
+    go ih (no d) = omega (arith, count-up low high i (suc n) (omega arith) p)
 
 -- a test that another implies counts at least as much, and where both count alike they agree
 count-implied : (f g : ℕ → Bool) (i n : ℕ) → ((k : ℕ) → i ≤ k → k < i + n → f k ≡ true → g k ≡ true) → count f i n ≤ count g i n

@@ -1,7 +1,7 @@
--- `map::nth_block` meets its contract: after k turns the block in hand is the k-th of the chain.
+-- `map::nth_block` meets its contract: after k turns the block in hand is the k-th of the chain, and k links more are counted.
 -- A faultless chain's blocks are data blocks, so each has a map value to read. Assumes nothing.
 use mathlib.Core.Path.{_≡_, refl, ap, _∙_}
-use Prim.Native.Nat.{ℕ, _-_, _≤_}
+use Prim.Native.Nat.{ℕ, _+_, _-_, _≤_}
 use native.Mathlib.Omega.{arith}
 use borrow.Author.Needs.{needs}
 use lib.ListN.{getD}
@@ -12,10 +12,10 @@ use Rattle.map.proofs.nth_block.Statement.{statement}
 use Rattle.map.proofs.nth_block.Tie as tie
 
 abbrev Inv-loop : tie.InvT-loop
-Inv-loop image links start n block₀ k₀ block k = (k ≤ n) × (block ≡ getD (chain (mapAt (bytes image)) links start) k 0)
+Inv-loop image links start n followed₀ block₀ k₀ followed block k = (k ≤ n) × (block ≡ getD (chain (mapAt (bytes image)) links start) k 0) × (followed ≡ followed₀ + k)
 
 abbrev μ-loop : tie.MeasureT-loop
-μ-loop image links start n block₀ k₀ block k = n - k
+μ-loop image links start n followed₀ block₀ k₀ followed block k = n - k
 
 -- the block in hand is the chain's k-th, so a data block
 inside : (c : tie.At-loop Inv-loop μ-loop) → Data (c .before .before .args .layout) (c .loop .block)
@@ -25,25 +25,30 @@ inside c =
     nth-data (a .layout) (mapAt (bytes (a .image .now))) (a .links) (a .start) (c .loop .k) (s .pre .1) (omega arith) (c .loop .inv .1)
 
 loop-holds : tie.Need-loop-holds Inv-loop μ-loop
-loop-holds c = (omega arith, nth-first _ _ _)
+loop-holds c = (omega arith, nth-first _ _ _, omega arith)
 
-map-at-requires : tie.Need-map-at-requires Inv-loop μ-loop
-map-at-requires c κs = omega (arith, inside (c .before) .1)
+follow-requires : tie.Need-follow-requires Inv-loop μ-loop
+follow-requires c κs = (omega (arith, inside (c .before .before) .1), omega arith)
 
 loop-again : tie.Need-loop-again Inv-loop μ-loop
 loop-again c =
-    let l = c .before .before .loop in
-    let a = c .before .before .before .before .args in
-    (omega arith, nth-next (mapAt (bytes (a .image .now))) (a .links) (a .start) (l .k) (l .inv .1) (c .map-at .ensures) (omega arith) refl)
+    let l = c .before .before .before .loop in
+    let a = c .before .before .before .before .before .args in
+    let f = c .follow .ensures in
+    (omega arith, nth-next (mapAt (bytes (a .image .now))) (a .links) (a .start) (l .k) (l .inv .1) (f .value) (omega arith) refl, omega (arith, f .counted))
 
 returns : tie.Need-returns Inv-loop μ-loop
 returns c =
     let l = c .before .loop in
     let a = c .before .before .before .args in
     let e : l .k ≡ a .n = omega arith in
-    record { value = l .inv .1 ∙ ap (λ (i : ℕ). getD (chain (mapAt (bytes (a .image .now))) (a .links) (a .start)) i 0) e; inside = inside (c .before) }
+    record {
+      value = l .inv .1 ∙ ap (λ (i : ℕ). getD (chain (mapAt (bytes (a .image .now))) (a .links) (a .start)) i 0) e;
+      inside = inside (c .before);
+      counted = omega arith;
+    }
 
 pub nth-block-spec : {M : Type 1} → statement M
 nth-block-spec =
     tie.close
-    (tie.spec Inv-loop μ-loop loop-holds map-at-requires (λ c. search needs) (λ c. search needs) loop-again returns)
+    (tie.spec Inv-loop μ-loop loop-holds follow-requires (λ c. search needs) (λ c. search needs) loop-again returns)

@@ -4,6 +4,7 @@ use mathlib.Core.Path.{_≡_, refl, ap, _∙_}
 use mathlib.Core.List.{List, [], _∷_}
 use mathlib.Core.Logic.{inl, inr}
 use Prim.Native.Nat.{ℕ, zero, suc, _+_, _-_, _≤_, _<_}
+use native.Mathlib.Nat.{suc-add}
 use native.Mathlib.Omega.{arith}
 use lib.ListN.{length, getD}
 use Rattle.laws.specs.Lemmas.Scan.{count-split}
@@ -97,6 +98,27 @@ nth-after m (suc k) b (suc n) h = nth-after m k (m b) n (omega arith)
 -- the next one, at index j
 pub nth-next : (m : ℕ → ℕ) (k b n : ℕ) {x v j : ℕ} → x ≡ getD (chain m k b) n 0 → v ≡ m x → n < k → j ≡ n + 1 → v ≡ getD (chain m k b) j 0
 nth-next m k b n e w h p = w ∙ ap m e ∙ nth-after m k b n h ∙ ap (λ (i : ℕ). getD (chain m k b) i 0) (omega arith)
+
+-- ---- a chain from its j-th block x on, with `left` links
+
+chained-on : (l : Layout) (m : ℕ → ℕ) (k b j left : ℕ) → left + j ≡ k → Chained l m k b → Chained l m left (getD (chain m k b) j 0)
+unfolding chain Chained
+chained-on l m k b zero left e c = let p : left ≡ k = omega arith in rw (p, ← nth-first m k b) c
+chained-on l m zero b (suc j) left e c = absurd (omega arith)
+chained-on l m (suc k) b (suc j) left e c = chained-on l m k (m b) j left (omega arith) (c .1)
+
+pub chained-from : (l : Layout) (m : ℕ → ℕ) (k b j left : ℕ) {x : ℕ} → x ≡ getD (chain m k b) j 0 → left + j ≡ k → Chained l m k b → Chained l m left x
+chained-from l m k b j left e p c = rw e (chained-on l m k b j left p c)
+
+nth-on : (m : ℕ → ℕ) (k b j left i : ℕ) → left + j ≡ k → getD (chain m left (getD (chain m k b) j 0)) i 0 ≡ getD (chain m k b) (j + i) 0
+unfolding chain
+nth-on m k b zero left i e = let p : left ≡ k = omega arith in let q : 0 + i ≡ i = omega arith in rw (p, q, ← nth-first m k b) refl
+nth-on m zero b (suc j) left i e = absurd (omega arith)
+nth-on m (suc k) b (suc j) left i e = rw (suc-add j i) (nth-on m k (m b) j left i (omega arith))
+
+-- its i-th block, at index n of the whole
+pub nth-from : (m : ℕ → ℕ) (k b j left i : ℕ) {x v n : ℕ} → x ≡ getD (chain m k b) j 0 → left + j ≡ k → v ≡ getD (chain m left x) i 0 → n ≡ j + i → v ≡ getD (chain m k b) n 0
+nth-from m k b j left i e p w q = w ∙ rw (e, q) (nth-on m k b j left i p)
 
 -- ---- maps that agree on a chain
 

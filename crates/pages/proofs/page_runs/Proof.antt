@@ -1,8 +1,8 @@
--- `pages::page_runs` meets its contract: after each run the output's front holds the page's first `done` bytes.
--- A run lies in one block of the chain, so it is a part of that block of the image. Assumes nothing.
+-- `pages::page_runs` meets its contract: after each run the output's front holds the page's first `done` bytes, and the cost is that of so many.
+-- A run lies in one block of the chain, so it is a part of that block of the image, and the next one begins a block. Assumes nothing.
 use mathlib.Core.Path.{_≡_, refl, sym, ap, _∙_}
 use mathlib.Core.List.{List, [], _∷_, _++_}
-use Prim.Native.Nat.{ℕ, zero, suc, _+_, _-_, _*_, _≤_, _<_}
+use Prim.Native.Nat.{ℕ, zero, suc, _+_, _-_, _*_, _/_, _%_, _≤_, _<_}
 use native.Mathlib.Omega.{arith}
 use lib.ListN.{length, take, drop, getD, length-drop}
 use lib.Seq.{take-all, take-append-le, drop-append-le, drop-append-add}
@@ -17,8 +17,11 @@ use Rattle.layout.specs.Layouts.{imageLength}
 use Rattle.layout.specs.Right.{LayoutRight}
 use Rattle.blocks.specs.Blocks.{readBlocks, blockAt}
 use Rattle.blocks.specs.Lemmas.Blocks.{length-read}
-use Rattle.map.specs.Map.{mapAt, Fits, Data, chain}
-use Rattle.map.specs.Lemmas.Chains.{length-chain, chain-short, nth-data, nth-next}
+use Rattle.map.specs.Map.{mapAt, Fits, chain}
+use Rattle.map.specs.Lemmas.Chains.{length-chain, chain-short, nth-first, chained-from, nth-from}
+use Rattle.pages.specs.declared.Cost.{Cost}
+use Rattle.pages.specs.Cost.{costOf}
+use Rattle.pages.specs.Lemmas.Growing.{cost-low, cost-few, run-links, run-runs}
 use Rattle.pages.proofs.page_runs.Statement.{statement}
 use Rattle.pages.proofs.page_runs.Tie as tie
 
@@ -42,30 +45,30 @@ read-part f (b ∷ ks) size (suc j) r n h k =
     let e : 1024 * suc j + r ≡ length (f b) + (1024 * j + r) = omega (arith, size b) in
     rw e (part-right (f b) (readBlocks f ks) (1024 * j + r) n ∙ read-part f ks size j r n (omega arith) k)
 
--- a page's next run, which lies in the j-th block
-page-run : (img ks : List ℕ) (offset count done run j block : ℕ) → block ≡ getD ks j 0 → 1024 * block + 1024 ≤ length img → offset + count ≤ 1024 * length ks
-    → done + run ≤ count → j < length ks → 1024 * j ≤ offset + done → offset + done + run ≤ 1024 * j + 1024
-    → part img (1024 * block + (offset + done - 1024 * j)) run ≡ part (part (readBlocks (blockAt (bytes img)) ks) offset count) done run
-page-run img ks offset count done run j block e inside long h k p q =
-    let r = offset + done - 1024 * j in
+-- a page's next run, which begins in the j-th block and ends there
+page-run : (img ks : List ℕ) (offset count done run block : ℕ) → let j = (offset + done) / 1024 in block ≡ getD ks j 0 → 1024 * block + 1024 ≤ length img → offset + count ≤ 1024 * length ks
+    → done + run ≤ count → j < length ks → (offset + done) % 1024 + run ≤ 1024
+    → part img (1024 * block + (offset + done) % 1024) run ≡ part (part (readBlocks (blockAt (bytes img)) ks) offset count) done run
+page-run img ks offset count done run block e inside long h k q =
+    let j = (offset + done) / 1024 in
+    let r = (offset + done) % 1024 in
     let size : (b : ℕ) → length (blockAt (bytes img) b) ≡ 1024 = λ b. length-tab (bytes img) (1024 * b) 1024 in
     let at : offset + done ≡ 1024 * j + r = omega arith in
     sym (
     part-part (readBlocks (blockAt (bytes img)) ks) offset count done run (omega (arith, length-read (blockAt (bytes img)) ks (λ b i. size b))) h
     ∙ ap (λ (x : ℕ). part (readBlocks (blockAt (bytes img)) ks) x run) at
-    ∙ read-part (blockAt (bytes img)) ks size j r run k (omega arith)
+    ∙ read-part (blockAt (bytes img)) ks size j r run k q
     ∙ ap (λ (b : ℕ). part (blockAt (bytes img) b) r run) (sym e)
     ∙ ap (λ (l : List ℕ). part l r run) (tab-part img (1024 * block) 1024 inside)
-    ∙ part-part img (1024 * block) 1024 r run inside (omega arith))
-
--- a page of no bytes
-empty-page : (out l : List ℕ) (at : ℕ) {n : ℕ} → n ≡ 0 → out ≡ splice out 0 (part l at n)
-unfolding part
-empty-page out l at e = rw e (splice-none out 0)
+    ∙ part-part img (1024 * block) 1024 r run inside q)
 
 -- the map lies in the image
 fits : (l : Layout) → LayoutRight l → (img : List ℕ) → length img ≡ imageLength l → Fits l img
 fits l right img size = omega (arith, right .map-low, right .data-some)
+
+-- a cost by its parts
+cost-of : {links runs : ℕ} (c : Cost) → links ≡ c .links → runs ≡ c .runs → record { links = links; runs = runs } ≡ c
+cost-of c e f = rw (e, f) refl
 
 -- ---- the loop
 
@@ -73,33 +76,29 @@ fits l right img size = omega (arith, right .map-low, right .data-some)
 abbrev page : List ℕ → ℕ → ℕ → ℕ → ℕ → List ℕ
 page image links start offset count = part (readBlocks (blockAt (bytes image)) (chain (mapAt (bytes image)) links start)) offset count
 
+-- where the walk stands, what was copied, what that cost
 abbrev Inv-loop : tie.InvT-loop
-Inv-loop image links start offset out₀ count j₀ block₀ done₀ out j block done =
-    (j ≤ links) × (block ≡ getD (chain (mapAt (bytes image)) links start) j 0) × (1024 * j ≤ offset + done) × (offset + done < 1024 * j + 1024)
-    × (done < count) × (length out ≡ length out₀) × (out ≡ splice out₀ 0 (take done (page image links start offset count)))
+Inv-loop image layout links start offset out₀ count followed₀ runs₀ block₀ j₀ done₀ out followed runs block j done =
+    (j ≤ links) × (block ≡ getD (chain (mapAt (bytes image)) links start) j 0) × (done ≤ count)
+    × (length out ≡ length out₀) × (out ≡ splice out₀ 0 (take done (page image links start offset count)))
+    × (followed ≡ j) × (j ≡ costOf (links + 1) offset done .links) × (runs ≡ costOf (links + 1) offset done .runs) × (1 ≤ done → done < count → (offset + done) % 1024 ≡ 0)
 
 abbrev μ-loop : tie.MeasureT-loop
-μ-loop image links start offset out₀ count j₀ block₀ done₀ out j block done = count - done
+μ-loop image layout links start offset out₀ count followed₀ runs₀ block₀ j₀ done₀ out followed runs block j done = count - done
 
 -- the function's entry and the page, seen from the loop
 abbrev Entry : tie.At-loop Inv-loop μ-loop → tie.Start Inv-loop μ-loop
-Entry c = c .before .before .before .before .before
+Entry c = c .before .before .before
 
 abbrev Page : tie.At-loop Inv-loop μ-loop → List ℕ
 Page c = let a = Entry c .args in page (now (a .image)) (a .links) (a .start) (a .offset) (a .count)
 
--- the block in hand is the chain's j-th, so a data block
-inside : (c : tie.At-loop Inv-loop μ-loop) → Data (Entry c .args .layout) (c .loop .block)
-inside c =
-    let a = Entry c .args in
-    nth-data (a .layout) (mapAt (bytes (now (a .image)))) (a .links) (a .start) (c .loop .j) (Entry c .pre .0 .2) (c .loop .inv .0) (c .loop .inv .1)
-
--- a chain has no more blocks than the disk
-short : (c : tie.At-loop Inv-loop μ-loop) → Entry c .args .links < 1600
-short c =
+-- a chain has fewer blocks than the disk
+few : (c : tie.At-loop Inv-loop μ-loop) → Entry c .args .links + 1 < 1600
+few c =
     let a = Entry c .args in
     let right = Entry c .pre .0 .0 in
-    omega (arith, right .blocks-most, chain-short (a .layout) right (mapAt (bytes (now (a .image)))) (a .links) (a .start) (Entry c .pre .0 .2))
+    omega (arith, right .blocks-most, right .data-first, chain-short (a .layout) right (mapAt (bytes (now (a .image)))) (a .links) (a .start) (Entry c .pre .0 .2))
 
 page-long : (c : tie.At-loop Inv-loop μ-loop) → length (Page c) ≡ Entry c .args .count
 page-long c =
@@ -109,86 +108,111 @@ page-long c =
     length-part (readBlocks (blockAt b) ks) (a .offset) (a .count)
     (omega (arith, length-read (blockAt b) ks (λ k i. length-tab b (1024 * k) 1024), length-chain (mapAt b) (a .links) (a .start), Entry c .pre))
 
--- the output after a run
-copied : (c : tie.After-copy-part Inv-loop μ-loop)
-    → c .copy-part .last .1 .1 .0 ≡ splice (now (Entry (c .before .before .before) .args .out)) 0 (take (c .before .before .before .loop .done + c .before .before .least .result) (Page (c .before .before .before)))
-copied c =
+-- the walk hasn't gone past the next byte
+behind : (c : tie.At-loop Inv-loop μ-loop) → c .loop .j ≤ (Entry c .args .offset + c .loop .done) / 1024
+behind c = let a = Entry c .args in omega (arith, cost-low (a .links + 1) (a .offset) (c .loop .done))
+
+-- the loop's head, seen from after a run
+abbrev Turn : tie.After-copy-counted Inv-loop μ-loop → tie.At-loop Inv-loop μ-loop
+Turn c = c .before .before .before .before .before .before .before
+
+-- the walk stands in the next byte's block
+there : (c : tie.After-nth-block Inv-loop μ-loop)
+    → let p = c .before .before .before in
+    let a = Entry p .args in
+    c .nth-block .result ≡ getD (chain (mapAt (bytes (now (a .image)))) (a .links) (a .start)) ((a .offset + p .loop .done) / 1024) 0
+there c =
     let p = c .before .before .before in
+    let a = Entry p .args in
+    let l = p .loop in
+    let next = (a .offset + l .done) / 1024 in
+    nth-from (mapAt (bytes (now (a .image)))) (a .links) (a .start) (l .j) (a .links - l .j) (next - l .j) (l .inv .1) (omega arith) (c .nth-block .ensures .value) (omega (arith, behind p))
+
+-- the output after a run
+copied : (c : tie.After-copy-counted Inv-loop μ-loop)
+    → c .copy-counted .last .1 .1 .0 ≡ splice (now (Entry (Turn c) .args .out)) 0 (take (Turn c .loop .done + c .before .before .before .least .result) (Page (Turn c)))
+copied c =
+    let g = c .before .before .before in
+    let p = Turn c in
     let l = p .loop in
     let a = Entry p .args in
     let img = now (a .image) in
     let m = mapAt (bytes img) in
-    let run = c .before .before .least .result in
+    let run = g .least .result in
+    let block = g .before .nth-block .result in
     let n = length-chain m (a .links) (a .start) in
-    let below = inside p .1 in
-    let q : part img (1024 * l .block + (a .offset + l .done - 1024 * l .j)) run ≡ part (Page p) (l .done) run =
-    page-run img (chain m (a .links) (a .start)) (a .offset) (a .count) (l .done) run (l .j) (l .block) (l .inv .1) (omega (arith, Entry p .pre)) (omega (arith, Entry p .pre)) (omega arith) (omega arith) (omega arith) (omega arith) in
-    let e : c .copy-part .last .1 .1 .0 ≡ splice (l .out) (l .done) (part (Page p) (l .done) run) = rw (← q) (c .copy-part .ensures) in
-    e ∙ splice-turns (now (a .out)) 0 (Page p) (l .done) run (l .inv .6) (omega arith) (omega (arith, page-long p))
+    let below = g .before .nth-block .ensures .inside .1 in
+    let q : part img (1024 * block + (a .offset + l .done) % 1024) run ≡ part (Page p) (l .done) run =
+    page-run img (chain m (a .links) (a .start)) (a .offset) (a .count) (l .done) run block (there (g .before)) (omega (arith, Entry p .pre)) (omega (arith, Entry p .pre)) (omega arith) (omega arith) (omega arith) in
+    let e : c .copy-counted .last .1 .1 .0 ≡ splice (l .out) (l .done) (part (Page p) (l .done) run) = rw (← q) (c .copy-counted .ensures .0) in
+    e ∙ splice-turns (now (a .out)) 0 (Page p) (l .done) run (l .inv .4) (omega arith) (omega (arith, page-long p))
 
-returns : tie.Need-returns Inv-loop μ-loop
-returns c =
-    let a = c .before .before .before .args in
-    let b = bytes (now (a .image)) in
-    empty-page (now (a .out)) (readBlocks (blockAt b) (chain (mapAt b) (a .links) (a .start))) (a .offset) (c .if1 .taken)
+loop-holds : tie.Need-loop-holds Inv-loop μ-loop
+unfolding costOf
+loop-holds c = (omega arith, nth-first _ _ _, omega arith, refl, splice-none _ 0, refl, refl, refl, λ h k. absurd (omega arith))
+
+add-at : tie.Need-add-at Inv-loop μ-loop
+add-at c = omega (arith, few (c .before))
+
+sub-nth-block-2 : tie.Need-sub-nth-block-2 Inv-loop μ-loop
+sub-nth-block-2 c = omega (arith, behind (c .before))
 
 nth-block-requires : tie.Need-nth-block-requires Inv-loop μ-loop
 nth-block-requires c κs =
-    let s = c .before .before .before in
-    (fits (s .args .layout) (s .pre .0 .0) (now (s .args .image)) (s .pre .0 .1), s .pre .0 .2, omega arith)
-
-loop-holds : tie.Need-loop-holds Inv-loop μ-loop
-loop-holds c = (omega arith, c .nth-block .ensures .value, omega arith, omega arith, omega arith, refl, splice-none _ 0)
-
-add-at : tie.Need-add-at Inv-loop μ-loop
-add-at c = omega (arith, short c)
-
-mul-least : tie.Need-mul-least Inv-loop μ-loop
-mul-least c = omega (arith, short c)
-
-add-least : tie.Need-add-least Inv-loop μ-loop
-add-least c = omega (arith, short c)
-
-mul-copy-part : tie.Need-mul-copy-part Inv-loop μ-loop
-mul-copy-part c = omega (arith, inside (c .before) .1)
-
-mul-copy-part-2 : tie.Need-mul-copy-part-2 Inv-loop μ-loop
-mul-copy-part-2 c = omega (arith, short (c .before))
-
-add-copy-part : tie.Need-add-copy-part Inv-loop μ-loop
-add-copy-part c = omega (arith, inside (c .before) .1)
-
-copy-part-requires : tie.Need-copy-part-requires Inv-loop μ-loop
-copy-part-requires c κs = omega (arith, inside (c .before .before) .1)
-
-map-at-requires : tie.Need-map-at-requires Inv-loop μ-loop
-map-at-requires c κs =
-    let p = c .before .before .before .before .before .before in
+    let p = c .before .before in
     let s = Entry p in
-    omega (arith, fits (s .args .layout) (s .pre .0 .0) (now (s .args .image)) (s .pre .0 .1), inside p .1)
+    let a = s .args in
+    let l = p .loop in (
+      fits (a .layout) (s .pre .0 .0) (now (a .image)) (s .pre .0 .1),
+      chained-from (a .layout) (mapAt (bytes (now (a .image)))) (a .links) (a .start) (l .j) (a .links - l .j) (l .inv .1) (omega arith) (s .pre .0 .2),
+      omega arith,
+      omega (arith, few p, behind p),
+    )
 
-add-j : tie.Need-add-j Inv-loop μ-loop
-add-j c = omega (arith, short (c .before .before .before .before .before .before .before))
+mul-copy-counted : tie.Need-mul-copy-counted Inv-loop μ-loop
+mul-copy-counted c = omega (arith, c .before .nth-block .ensures .inside .1)
+
+add-copy-counted : tie.Need-add-copy-counted Inv-loop μ-loop
+add-copy-counted c = omega (arith, c .before .nth-block .ensures .inside .1)
+
+copy-counted-requires : tie.Need-copy-counted-requires Inv-loop μ-loop
+copy-counted-requires c κs =
+    let g = c .before .before .before in
+    let p = g .before .before .before in
+    let a = Entry p .args in
+    (omega (arith, g .nth-block .ensures .inside .1), omega arith, omega (arith, few p, cost-few (a .links + 1) (a .offset) (p .loop .done)))
 
 loop-again : tie.Need-loop-again Inv-loop μ-loop
 loop-again c =
-    let d = c .before .before .before .before in
-    let p = d .before .before .before in
+    let d = c .before .before in
+    let g = d .before .before .before in
+    let p = Turn d in
     let l = p .loop in
     let a = Entry p .args in
-    let e = nth-next (mapAt (bytes (now (a .image)))) (a .links) (a .start) (l .j) (l .inv .1) (c .map-at .ensures) (omega arith) refl in
-    (omega arith, e, omega arith, omega arith, omega arith, ap length (copied d) ∙ length-splice (now (a .out)) 0 _, copied d)
+    let run = g .least .result in (
+      omega arith,
+      there (g .before),
+      omega arith,
+      ap length (copied d) ∙ length-splice (now (a .out)) 0 _,
+      copied d,
+      omega (arith, behind p, g .before .nth-block .ensures .counted),
+      sym (run-links (a .links + 1) (a .offset) (l .done) run (omega arith) (omega arith)),
+      omega (arith, l .inv .7, d .copy-counted .ensures .1, run-runs (a .links + 1) (a .offset) (l .done) run (omega arith) (omega arith) (omega arith) (λ h. l .inv .8 h (omega arith))),
+      λ h k. omega arith,
+    )
 
 same-length : tie.Need-same-length Inv-loop μ-loop
-same-length c =
-    let d = c .before .before .before in
-    ap length (copied d) ∙ length-splice (now (Entry (d .before .before .before) .args .out)) 0 _
+same-length c = c .before .loop .inv .3
 
-returns-2 : tie.Need-returns-2 Inv-loop μ-loop
-returns-2 c =
-    let d = c .before .before .before in
-    let p = d .before .before .before in
-    copied d ∙ ap (splice (now (Entry p .args .out)) 0) (take-all (p .loop .done + d .before .before .least .result) (Page p) (omega (arith, page-long p)))
+returns : tie.Need-returns Inv-loop μ-loop
+returns c =
+    let p = c .before in
+    let a = Entry p .args in
+    let l = p .loop in
+    let e : costOf (a .links + 1) (a .offset) (l .done) ≡ costOf (a .links + 1) (a .offset) (a .count) = ap (costOf (a .links + 1) (a .offset)) (omega arith) in (
+      l .inv .4 ∙ ap (splice (now (a .out)) 0) (take-all (l .done) (Page p) (omega (arith, page-long p))),
+      cost-of (costOf (a .links + 1) (a .offset) (l .done)) (l .inv .5 ∙ l .inv .6) (l .inv .7) ∙ e,
+    )
 
 pub page-runs-spec : {M : Type 1} → statement M
 page-runs-spec =
@@ -196,24 +220,19 @@ page-runs-spec =
     (tie.spec
     Inv-loop
     μ-loop
-    returns
-    nth-block-requires
     loop-holds
     add-at
     (λ c. search needs)
-    mul-least
-    add-least
+    sub-nth-block-2
+    nth-block-requires
+    (λ c. search needs)
     (λ c. search needs)
     (λ c κs. search needs)
-    mul-copy-part
-    mul-copy-part-2
+    mul-copy-counted
+    add-copy-counted
+    copy-counted-requires
     (λ c. search needs)
-    add-copy-part
-    copy-part-requires
-    (λ c. search needs)
-    map-at-requires
-    add-j
     (λ c. search needs)
     loop-again
     same-length
-    returns-2)
+    returns)
