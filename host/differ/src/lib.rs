@@ -8,6 +8,7 @@
 pub mod call;
 pub mod case;
 mod choose;
+pub mod costs;
 mod disks;
 mod programs;
 mod samples;

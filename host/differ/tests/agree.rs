@@ -1,7 +1,9 @@
 //! The library against the model, the same cases at every run.
 
 use differ::case::{self, Disagreement, Sort, Tally};
+use differ::costs::{self, Pages};
 use model::layout::{Kind, LAYOUTS};
+use std::path::Path;
 use std::process::Command;
 
 /// Fewest calls of a run.
@@ -37,6 +39,20 @@ fn spellings_were_met(tally: &Tally) {
         };
         assert!(counts.iter().all(|&count| count >= 30), "{layout:?}: {met:?}");
     }
+}
+
+/// What pages cost is what the model says, on good and damaged disks.
+#[test]
+fn costs_agree() {
+    let program = Path::new(env!("CARGO_MANIFEST_DIR")).join("../../target/bin/cases");
+    assert!(program.exists(), "{} isn't built; rt check cases builds it", program.display());
+    let mut pages = Pages::default();
+    for seed in 0..200 {
+        costs::run(&program, seed, &mut pages).unwrap_or_else(|apart| panic!("{apart}"));
+    }
+    println!("{pages:?}");
+    let counts = [pages.one_run, pages.runs, pages.empty, pages.refused];
+    assert!(counts.iter().all(|&count| count >= 500), "{pages:?}");
 }
 
 #[test]

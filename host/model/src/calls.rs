@@ -75,6 +75,23 @@ pub fn page(image: &[u8], slot: usize, offset: usize, output: &mut [u8]) -> Answ
     Ok(Paged { count, end: offset + count == file.length })
 }
 
+/// What copying a page follows and copies (document 02, request three).
+#[derive(Clone, Copy, Debug, Default, PartialEq, Eq)]
+pub struct Cost {
+    /// The last byte's offset in the file by 1,024, rounded down.
+    pub links: usize,
+    /// The blocks that hold the page's bytes.
+    pub runs: usize,
+}
+
+/// The cost of a page into an output of so many bytes: nothing for an empty page, or a refused one.
+pub fn page_cost(image: &[u8], slot: usize, offset: usize, room: usize) -> Cost {
+    let Ok(page) = page(image, slot, offset, &mut vec![0; room]) else { return Cost::default() };
+    let mut blocks: Vec<usize> = (offset..offset + page.count).map(|byte| byte / BLOCK).collect();
+    blocks.dedup();
+    Cost { links: blocks.last().copied().unwrap_or(0), runs: blocks.len() }
+}
+
 /// Stores the numbers of a file's blocks to the output's front, in the file's order, and gives how many: 10, 21.
 pub fn blocks(image: &[u8], slot: usize, output: &mut [u16]) -> Answer<usize> {
     let disk = read(image)?;

@@ -6,10 +6,11 @@
 //!
 //! [`calls`] has the disk calls, [`samples`] and [`program`] the files, [`script`] whole scripts of calls, [`record`] the plain record of files
 //! that a sequence of calls must behave as, and [`maker`], [`faults`] and [`files`] make disks and
-//! files for tests. [`tour`] is a disk to try the command on.
+//! files for tests. [`tour`] is a disk to try the command on, and [`cases`] asks the program of that name.
 #![forbid(unsafe_code)]
 
 pub mod calls;
+pub mod cases;
 pub mod disk;
 pub mod faults;
 pub mod files;
