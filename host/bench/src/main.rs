@@ -26,12 +26,13 @@ fn main() {
     let mut table = table::Table::new();
     checks::run(&mut table);
     pages::run(&mut table);
+    let costs = pages::costs(&mut table, &root.join("target/bin/cases"));
     changes::run(&mut table);
     samples::run(&mut table);
     stack::run(&mut table);
     let processes = processes::run(&mut table, &root, program.with_file_name("sj").as_path());
     table.end();
-    if let Err(why) = processes {
+    for why in [costs, processes.map_err(|why| why.to_string())].into_iter().filter_map(Result::err) {
         println!("Not all processes ran: {why}");
     }
 }

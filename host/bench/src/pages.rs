@@ -1,12 +1,14 @@
-//! Pages of a file of 1.5 MB against plain Rust and against memcpy.
+//! Pages of a file of 1.5 MB against plain Rust and against memcpy, and what they cost.
 
 use crate::calls::PEER;
 use crate::disks::{Order, disk};
 use crate::race::{race, timed};
 use crate::reader;
 use crate::table::Table;
+use model::cases::{cost_in, printed_by, text_of};
 use model::layout::{BLOCK, Kind};
 use skilletjay::lend;
+use std::path::Path;
 
 const BLOCKS: usize = 1536;
 const LENGTH: usize = BLOCK * BLOCKS;
@@ -39,6 +41,26 @@ pub fn run(table: &mut Table) {
         table.ratio(&what, &taken[0], "Rust, no check", &taken[2], None);
         table.ratio(&what, &taken[0], "memcpy of the whole", &taken[3], copy);
     }
+}
+
+/// Counts links and runs of the whole file in pages of 64 KiB, as the program `cases` tells them: C isn't told.
+pub fn costs(table: &mut Table, cases: &Path) -> Result<(), String> {
+    const SIZE: usize = 64 << 10;
+    let image = disk(Kind::S1000, 1, BLOCKS, Order::Scattered);
+    let asked: String = (0..LENGTH).step_by(SIZE).map(|at| format!("took 0 {at} {SIZE}\n")).collect();
+    let told = printed_by(cases, &(text_of(&image) + &asked))?;
+    let costs: Vec<(usize, usize)> = told.lines().filter_map(cost_in).collect();
+    if costs.len() != LENGTH.div_ceil(SIZE) {
+        return Err(format!("{}: {told}", cases.display()));
+    }
+    let (links, runs) = costs.iter().fold((0, 0), |sum, cost| (sum.0 + cost.0, sum.1 + cost.1));
+    // A page starts at the file's first block, so it follows at least the links to the block of its last byte.
+    let least = (SIZE..LENGTH + 1).step_by(SIZE).map(|end| (end - 1) / BLOCK).sum();
+    let what = "links followed for a whole download in 64 KiB pages";
+    table.count(what, links, "least possible", least, Some(1.0));
+    table.count(what, links, "one walk for all pages", BLOCKS - 1, None);
+    table.count("runs copied for it", runs, "blocks of the file", BLOCKS, Some(1.0));
+    Ok(())
 }
 
 /// Fills an output page by page.

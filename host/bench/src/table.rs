@@ -35,6 +35,15 @@ impl Table {
         race_line(what, ours, peer, ratio, "below 1", verdict);
     }
 
+    /// Something counted, and its ratio to a peer's count.
+    pub fn count(&mut self, what: &str, ours: usize, peer: &str, theirs: usize, goal: Goal) {
+        let ratio = ours as f64 / theirs as f64;
+        let limit = goal.map_or(String::new(), |most| format!("at most {most}"));
+        let verdict = goal.map_or("", |most| self.judge(ratio <= most));
+        let peer = format!("{peer}: {theirs}");
+        line([what, &ours.to_string(), &peer, &format!("{ratio:.2}"), "", &limit, verdict]);
+    }
+
     /// Something measured that has a limit of its own.
     pub fn limit(&mut self, what: &str, measured: &str, spread: &str, limit: &str, met: bool) {
         line([what, measured, "", "", spread, limit, self.judge(met)]);
@@ -71,7 +80,7 @@ fn race_line(what: &str, ours: &[f64], peer: &str, ratio: Spread, limit: &str, v
 }
 
 fn line(cells: [&str; 7]) {
-    let widths = [32, 9, 28, 5, 17, 12, 6];
+    let widths = [51, 9, 28, 5, 17, 12, 6];
     let padded: Vec<String> =
         cells.iter().zip(widths).map(|(cell, width)| format!(" {cell:<width$} ")).collect();
     println!("|{}|", padded.join("|"));
