@@ -18,10 +18,10 @@
 #include <stddef.h>
 #include <stdint.h>
 
-#define SJ_VERSION "0.4.0"
+#define SJ_VERSION "0.4.1"
 #define SJ_VERSION_MAJOR 0
 #define SJ_VERSION_MINOR 4
-#define SJ_VERSION_PATCH 0
+#define SJ_VERSION_PATCH 1
 
 #ifdef __cplusplus
 extern "C" {
