@@ -1,5 +1,5 @@
--- A page's bytes: a part of a content is that part of its chain's blocks, and written to the front of the output it leaves the rest.
--- By the laws of parts and splices. Assumes nothing.
+-- A page's bytes and cost: a part of a content is that part of its chain's blocks, and written to the front of the output it leaves the rest; the
+-- chain has as many blocks as the file. By the laws of parts and splices. Assumes nothing.
 use mathlib.Core.Path.{_≡_, refl, sym, ap, _∙_}
 use mathlib.Core.Bool.{Bool, true}
 use mathlib.Core.List.{List, _++_}
