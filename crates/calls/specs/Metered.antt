@@ -20,6 +20,7 @@ abbrev pub pageCost : Option File → ℕ → ℕ → Cost
 pageCost none offset room = noCost
 pageCost (some f) offset room = costOf (blocksFor (length (f .content))) offset (min room (length (f .content) - offset))
 
+-- By the check's answer.
 abbrev pub costBy : Checked → List ℕ → ℕ → ℕ → ℕ → Cost
 costBy (Refused r) img slot offset room = noCost
 costBy (Accepted k d files free) img slot offset room = pageCost (fileAt (layoutOf k d) (filesIn (layoutOf k d) img) slot) offset room

@@ -359,7 +359,7 @@ page-cost = costs.page-cost
 pub refused-cost : (img : List ℕ) (slot offset : ℕ) (out : List ℕ) (r : Refusal) → callOf img (page slot offset out) .answer .refusal ≡ some r → costIn img slot offset (length out) ≡ noCost
 refused-cost = costs.refused-cost
 
--- With bytes: links, the last byte's offset in the file by 1,024; runs, one for each block that holds its bytes. An empty page: 0 and 0.
+-- With bytes: links, the last byte's offset in the file divided by 1,024 and rounded down; runs, the blocks that hold its bytes. An empty page: 0 and 0.
 pub cost-links : (blocks offset size : ℕ) → 1 ≤ size → costOf blocks offset size .links ≡ (offset + size - 1) / 1024
 cost-links = cost.cost-links
 

@@ -24,10 +24,12 @@ unfoldable pub blocksHolding : ℕ → ℕ → ℕ → ℕ
 unfolding count holds
 blocksHolding blocks offset size = count (holds offset size) 0 blocks
 
+-- Nothing followed, nothing copied.
 abbrev pub noCost : Cost
 noCost = record { links = 0; runs = 0 }
 
--- The cost of a page of a file of so many blocks: the offset of its last byte by 1,024, and the blocks that hold its bytes; of an empty page, nothing.
+-- The cost of a page of a file of so many blocks. Links: its last byte's offset in the file, divided by 1,024 and rounded down. Runs: the blocks that
+-- hold its bytes. Of an empty page: nothing.
 unfoldable pub costOf : ℕ → ℕ → ℕ → Cost
 unfolding blocksHolding
 costOf blocks offset zero = noCost
