@@ -4,7 +4,7 @@ use mathlib.Core.Path.{_≡_}
 use mathlib.Core.Bool.{Bool, true, false}
 use mathlib.Core.List.{List, [], _∷_}
 use mathlib.Core.Logic.{_⊎_}
-use Prim.Native.Nat.{ℕ, zero, suc, _+_, _-_, _≤_, _<_}
+use Prim.Native.Nat.{ℕ, zero, suc, _-_, _≤_, _<_}
 use lib.Dec.{leb, ltb, eqb}
 use lib.ListN.{length, getD, set}
 use Rattle.laws.specs.Truth.{pick, both}
@@ -77,17 +77,6 @@ abbrev pub isWhole : Walk → Bool
 isWhole Whole = true
 isWhole Bad = false
 isWhole Cut = false
-
--- What a function that follows a block's link answers, and what it makes of the number of links followed: one more.
-pub record Follows (m : ℕ → ℕ) (block before r after : ℕ) : Type 0 where
-  pub value : r ≡ m block
-  pub counted : after ≡ before + 1
-
--- What a function that looks for the n-th block of a chain from its start on answers, and what it makes of that number: n more.
-pub record Nth (l : Layout) (m : ℕ → ℕ) (links start n before r after : ℕ) : Type 0 where
-  pub value : r ≡ getD (chain m links start) n 0
-  pub inside : Data l r
-  pub counted : after ≡ before + n
 
 -- ---- free blocks
 

@@ -7,7 +7,7 @@ ghost use Rattle.laws.specs.Reader.{bytes};
 ghost use Rattle.laws.specs.Member.{In};
 ghost use Rattle.layout.specs.Right.{LayoutRight};
 ghost use Rattle.layout.specs.Layouts.{mapOffset};
-ghost use Rattle.map.specs.Map.{mapAt, Fits, isLink, chain, Chained, Follows, Nth, freeBlocks, Collected, setMap, firstOr, linkBlocks, freeAll, touched, marked};
+ghost use Rattle.map.specs.Map.{mapAt, Fits, isLink, chain, Chained, freeBlocks, Collected, setMap, firstOr, linkBlocks, freeAll, touched, marked};
 
 // Blocks: the first `count` of the list.
 pub struct Blocks {
@@ -44,7 +44,8 @@ pub fn is_link(layout: layout::Layout, value: usize) -> bool
 // Follows a block's link, and counts it where it does.
 fn follow(image: &[u8], block: usize, followed: &mut usize) -> usize
     requires { ⌜ (mapOffset block + 2 ≤ length (now image)) × (now followed + 1 < 2 ^ 64) ⌝ }
-    ensures { λ r. ⌜ Follows (mapAt (bytes (now (image .entry)))) block (now (followed .entry)) r (now (followed .exit)) ⌝ }
+    ensures { λ r. ⌜ r ≡ mapAt (bytes (now (image .entry))) block ⌝ }
+    ensures { λ _. ⌜ now (followed .exit) ≡ now (followed .entry) + 1 ⌝ }
 {
     *followed += 1;
     map_at(image, block)
@@ -60,7 +61,8 @@ pub fn nth_block(
     followed: &mut usize,
 ) -> usize
     requires { ⌜ Fits layout (now image) × Chained layout (mapAt (bytes (now image))) links start × (n ≤ links) × (now followed + n < 2 ^ 64) ⌝ }
-    ensures { λ r. ⌜ Nth layout (mapAt (bytes (now (image .entry)))) links start n (now (followed .entry)) r (now (followed .exit)) ⌝ }
+    ensures { λ r. ⌜ r ≡ getD (chain (mapAt (bytes (now (image .entry)))) links start) n 0 ⌝ }
+    ensures { λ _. ⌜ now (followed .exit) ≡ now (followed .entry) + n ⌝ }
 {
     let mut block = start;
     let mut k = 0;

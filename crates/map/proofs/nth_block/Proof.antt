@@ -35,18 +35,14 @@ loop-again c =
     let l = c .before .before .before .loop in
     let a = c .before .before .before .before .before .args in
     let f = c .follow .ensures in
-    (omega arith, nth-next (mapAt (bytes (a .image .now))) (a .links) (a .start) (l .k) (l .inv .1) (f .value) (omega arith) refl, omega (arith, f .counted))
+    (omega arith, nth-next (mapAt (bytes (a .image .now))) (a .links) (a .start) (l .k) (l .inv .1) (f .0) (omega arith) refl, omega (arith, f .1))
 
 returns : tie.Need-returns Inv-loop μ-loop
 returns c =
     let l = c .before .loop in
     let a = c .before .before .before .args in
     let e : l .k ≡ a .n = omega arith in
-    record {
-      value = l .inv .1 ∙ ap (λ (i : ℕ). getD (chain (mapAt (bytes (a .image .now))) (a .links) (a .start)) i 0) e;
-      inside = inside (c .before);
-      counted = omega arith;
-    }
+    (l .inv .1 ∙ ap (λ (i : ℕ). getD (chain (mapAt (bytes (a .image .now))) (a .links) (a .start)) i 0) e, omega arith)
 
 pub nth-block-spec : {M : Type 1} → statement M
 nth-block-spec =

@@ -17,8 +17,8 @@ use Rattle.layout.specs.Layouts.{imageLength}
 use Rattle.layout.specs.Right.{LayoutRight}
 use Rattle.blocks.specs.Blocks.{readBlocks, blockAt}
 use Rattle.blocks.specs.Lemmas.Blocks.{length-read}
-use Rattle.map.specs.Map.{mapAt, Fits, chain}
-use Rattle.map.specs.Lemmas.Chains.{length-chain, chain-short, nth-first, chained-from, nth-from}
+use Rattle.map.specs.Map.{mapAt, Fits, Data, chain}
+use Rattle.map.specs.Lemmas.Chains.{length-chain, chain-short, nth-first, nth-data, chained-from, nth-from}
 use Rattle.pages.specs.declared.Cost.{Cost}
 use Rattle.pages.specs.Cost.{costOf}
 use Rattle.pages.specs.Lemmas.Growing.{cost-low, cost-few, run-links, run-runs}
@@ -126,7 +126,16 @@ there c =
     let a = Entry p .args in
     let l = p .loop in
     let next = (a .offset + l .done) / 1024 in
-    nth-from (mapAt (bytes (now (a .image)))) (a .links) (a .start) (l .j) (a .links - l .j) (next - l .j) (l .inv .1) (omega arith) (c .nth-block .ensures .value) (omega (arith, behind p))
+    nth-from (mapAt (bytes (now (a .image)))) (a .links) (a .start) (l .j) (a .links - l .j) (next - l .j) (l .inv .1) (omega arith) (c .nth-block .ensures .0) (omega (arith, behind p))
+
+-- so in a data block
+inside : (c : tie.After-nth-block Inv-loop μ-loop) → Data (Entry (c .before .before .before) .args .layout) (c .nth-block .result)
+inside c =
+    let p = c .before .before .before in
+    let s = Entry p in
+    let a = s .args in
+    let next = (a .offset + p .loop .done) / 1024 in
+    nth-data (a .layout) (mapAt (bytes (now (a .image)))) (a .links) (a .start) next (s .pre .0 .2) (omega arith) (there c)
 
 -- the output after a run
 copied : (c : tie.After-copy-counted Inv-loop μ-loop)
@@ -141,7 +150,7 @@ copied c =
     let run = g .least .result in
     let block = g .before .nth-block .result in
     let n = length-chain m (a .links) (a .start) in
-    let below = g .before .nth-block .ensures .inside .1 in
+    let below = inside (g .before) .1 in
     let q : part img (1024 * block + (a .offset + l .done) % 1024) run ≡ part (Page p) (l .done) run =
     page-run img (chain m (a .links) (a .start)) (a .offset) (a .count) (l .done) run block (there (g .before)) (omega (arith, Entry p .pre)) (omega (arith, Entry p .pre)) (omega arith) (omega arith) (omega arith) in
     let e : c .copy-counted .last .1 .1 .0 ≡ splice (l .out) (l .done) (part (Page p) (l .done) run) = rw (← q) (c .copy-counted .ensures .0) in
@@ -170,17 +179,17 @@ nth-block-requires c κs =
     )
 
 mul-copy-counted : tie.Need-mul-copy-counted Inv-loop μ-loop
-mul-copy-counted c = omega (arith, c .before .nth-block .ensures .inside .1)
+mul-copy-counted c = omega (arith, inside (c .before) .1)
 
 add-copy-counted : tie.Need-add-copy-counted Inv-loop μ-loop
-add-copy-counted c = omega (arith, c .before .nth-block .ensures .inside .1)
+add-copy-counted c = omega (arith, inside (c .before) .1)
 
 copy-counted-requires : tie.Need-copy-counted-requires Inv-loop μ-loop
 copy-counted-requires c κs =
     let g = c .before .before .before in
     let p = g .before .before .before in
     let a = Entry p .args in
-    (omega (arith, g .nth-block .ensures .inside .1), omega arith, omega (arith, few p, cost-few (a .links + 1) (a .offset) (p .loop .done)))
+    (omega (arith, inside g .1), omega arith, omega (arith, few p, cost-few (a .links + 1) (a .offset) (p .loop .done)))
 
 loop-again : tie.Need-loop-again Inv-loop μ-loop
 loop-again c =
@@ -195,7 +204,7 @@ loop-again c =
       omega arith,
       ap length (copied d) ∙ length-splice (now (a .out)) 0 _,
       copied d,
-      omega (arith, behind p, g .before .nth-block .ensures .counted),
+      omega (arith, behind p, g .before .nth-block .ensures .1),
       sym (run-links (a .links + 1) (a .offset) (l .done) run (omega arith) (omega arith)),
       omega (arith, l .inv .7, d .copy-counted .ensures .1, run-runs (a .links + 1) (a .offset) (l .done) run (omega arith) (omega arith) (omega arith) (λ h. l .inv .8 h (omega arith))),
       λ h k. omega arith,
