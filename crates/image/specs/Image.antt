@@ -12,7 +12,7 @@ use Rattle.layout.specs.Layouts.{imageLength, slotOffset}
 use Rattle.blocks.specs.Numbers.{number, digits}
 use Rattle.blocks.specs.Blocks.{blocksFor, blockAt, writeBlocks}
 use Rattle.names.specs.Names.{areaOf}
-use Rattle.map.specs.Map.{mapAt, freeBlocks, firstOr, linkBlocks, freeAll}
+use Rattle.map.specs.Map.{mapAt, freeBlocks, firstOr, linkBlocks, setAll}
 use Rattle.view.specs.Disk.{Entry, View, File, entryChain, filesOf, Valid}
 
 -- A directory entry of 24 bytes: name area 16, type, length 3, start 2; and its identity, the last 2.
@@ -46,8 +46,8 @@ eraseEntry img at = splice img at (replicate 22 0)
 
 -- Slot s set to zeros but for its identity, and its chain's map values set to 0.
 unfoldable pub removeImage : Layout → List ℕ → ℕ → List ℕ
-unfolding eraseEntry freeAll entryChain entryAt
-removeImage l img s = eraseEntry (freeAll img (entryChain (mapAt (bytes img)) (entryAt (bytes img) (slotOffset l s)))) (slotOffset l s)
+unfolding eraseEntry setAll entryChain entryAt
+removeImage l img s = eraseEntry (setAll img (entryChain (mapAt (bytes img)) (entryAt (bytes img) (slotOffset l s))) 0) (slotOffset l s)
 
 -- ---- put
 

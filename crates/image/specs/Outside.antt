@@ -18,8 +18,8 @@ use Rattle.blocks.specs.Blocks.{writeBlocks}
 use Rattle.blocks.specs.Lemmas.Blocks.{write-off}
 use Rattle.names.specs.Names.{legalName}
 use Rattle.names.specs.NameLaws.{length-area}
-use Rattle.map.specs.Map.{mapAt, freeAll}
-use Rattle.map.specs.Lemmas.Linking.{link-off, free-off}
+use Rattle.map.specs.Map.{mapAt, setAll}
+use Rattle.map.specs.Lemmas.Linking.{link-off, set-all-off}
 use Rattle.view.specs.Disk.{entryChain}
 use Rattle.image.specs.Image.{entryAt, removeImage, eraseEntry, entryBytes, setEntry, chosen, newEntry, fillBlocks, putImage}
 use Rattle.image.specs.Lemmas.Entries.{length-entry}
@@ -58,7 +58,7 @@ PutTouches l img s content i =
 
 -- ---- all else stays
 
-apart : (a n i : ℕ) → (Within a n i → ⊥) → (i < a) ⊎ (a + n ≤ i)
+pub apart : (a n i : ℕ) → (Within a n i → ⊥) → (i < a) ⊎ (a + n ≤ i)
 apart a n i out = go (decLt i a) (decLt i (a + n))
   where
     go : Dec (i < a) → Dec (i < a + n) → (i < a) ⊎ (a + n ≤ i)
@@ -71,8 +71,8 @@ module _ (l : Layout) (img : List ℕ) (s : ℕ) where
   unfolding removeImage eraseEntry
   remove-outside i out =
       let freed = entryChain (mapAt (bytes img)) (entryAt (bytes img) (slotOffset l s)) in
-      splice-off (freeAll img freed) (slotOffset l s) (replicate 22 0) i (apart (slotOffset l s) 22 i (λ p. out (inl p)))
-      ∙ free-off img freed i (λ b j. apart (mapOffset b) 2 i (λ p. out (inr (b, j, p))))
+      splice-off (setAll img freed 0) (slotOffset l s) (replicate 22 0) i (apart (slotOffset l s) 22 i (λ p. out (inl p)))
+      ∙ set-all-off img freed 0 i (λ b j. apart (mapOffset b) 2 i (λ p. out (inr (b, j, p))))
 
   pub put-outside : LayoutRight l → (name : List ℕ) → legalName l name ≡ true → (type : ℕ) (content : List ℕ) (i : ℕ) → (PutTouches l img s content i → ⊥)
       → bytes (putImage l img s name type content) i ≡ bytes img i

@@ -1,5 +1,6 @@
--- Searches, counts, sums and tests over a range of numbers, each one fold over it. Assumes nothing.
+-- Searches, counts, lists, sums and tests over a range of numbers, each one fold over it. Assumes nothing.
 use mathlib.Core.Bool.{Bool, true, false}
+use mathlib.Core.List.{List, [], _∷_}
 use Prim.Native.Nat.{ℕ, zero, suc, _+_}
 use Rattle.laws.specs.declared.Lowest.{Lowest}
 use Rattle.laws.specs.declared.Lowest.the-variants.{At, Nowhere}
@@ -23,6 +24,11 @@ lowest f i n = over (λ k rest. pick (f k) (At k) rest) Nowhere i n
 unfoldable pub count : (ℕ → Bool) → ℕ → ℕ → ℕ
 unfolding over
 count f i n = over (λ k rest. pick (f k) (suc rest) rest) 0 i n
+
+-- those that pass, in rising order
+unfoldable pub those : (ℕ → Bool) → ℕ → ℕ → List ℕ
+unfolding over
+those f i n = over (λ k rest. pick (f k) (k ∷ rest) rest) [] i n
 
 -- whether all of them pass
 unfoldable pub all : (ℕ → Bool) → ℕ → ℕ → Bool

@@ -25,6 +25,8 @@ pub record LayoutRight (l : Layout) : Type 0 where
   -- the end mark is a two-byte number and no block
   pub mark-out : l .blocks ≤ l .mark
   pub mark-word : l .mark < 65536
+  -- so is a system block's value
+  pub reserved-word : l .reserved < 65536
   -- directory and map lie apart, in system blocks
   pub directory-apart : DirectoryApart l
   pub directory-low : slotOffset l (l .slots) ≤ blockOffset (l .first)
@@ -60,6 +62,7 @@ right-900 blocks first a = record {
   system-low = omega arith;
   mark-out = omega arith;
   mark-word = omega arith;
+  reserved-word = omega arith;
   directory-apart = inl (omega arith);
   directory-low = omega arith;
   map-low = a .map;
@@ -82,6 +85,7 @@ right-1000 blocks first a = record {
   system-low = omega arith;
   mark-out = omega arith;
   mark-word = omega arith;
+  reserved-word = omega arith;
   directory-apart = inl (omega arith);
   directory-low = omega arith;
   map-low = a .map;

@@ -8,7 +8,7 @@ use Prim.Native.Nat.{ℕ, zero, suc, _-_, _≤_, _<_}
 use lib.Dec.{leb, ltb, eqb}
 use lib.ListN.{length, getD, set}
 use Rattle.laws.specs.Truth.{pick, both}
-use Rattle.laws.specs.Scan.{over, count}
+use Rattle.laws.specs.Scan.{count, those}
 use Rattle.laws.specs.Splice.{splice}
 use Rattle.laws.specs.Padded.{padded}
 use Rattle.layout.specs.declared.Layout.{Layout}
@@ -82,8 +82,8 @@ isWhole Cut = false
 
 -- The free ones of the n blocks from i on, in rising order: their map value is 0.
 unfoldable pub freeFrom : (ℕ → ℕ) → ℕ → ℕ → List ℕ
-unfolding over
-freeFrom m i n = over (λ k rest. pick (eqb (m k) 0) (k ∷ rest) rest) [] i n
+unfolding those
+freeFrom m i n = those (λ k. eqb (m k) 0) i n
 
 -- The free blocks of the data area, and their number.
 unfoldable pub freeBlocks : Layout → (ℕ → ℕ) → List ℕ
@@ -118,11 +118,11 @@ unfolding setMap firstOr
 linkBlocks img [] mark = img
 linkBlocks img (b ∷ bs) mark = linkBlocks (setMap img b (firstOr bs mark)) bs mark
 
--- An image with blocks freed.
-unfoldable pub freeAll : List ℕ → List ℕ → List ℕ
+-- An image with one map value at some blocks: 0 frees them.
+unfoldable pub setAll : List ℕ → List ℕ → ℕ → List ℕ
 unfolding setMap
-freeAll img [] = img
-freeAll img (b ∷ bs) = freeAll (setMap img b 0) bs
+setAll img [] v = img
+setAll img (b ∷ bs) v = setAll (setMap img b v) bs v
 
 -- ---- marks, one for each block
 

@@ -7,7 +7,7 @@ ghost use Rattle.laws.specs.Reader.{bytes};
 ghost use Rattle.laws.specs.Member.{In};
 ghost use Rattle.layout.specs.Right.{LayoutRight};
 ghost use Rattle.layout.specs.Layouts.{mapOffset};
-ghost use Rattle.map.specs.Map.{mapAt, Fits, isLink, chain, Chained, freeBlocks, Collected, setMap, firstOr, linkBlocks, freeAll, touched, marked};
+ghost use Rattle.map.specs.Map.{mapAt, Fits, isLink, chain, Chained, freeBlocks, Collected, setMap, firstOr, linkBlocks, setAll, touched, marked};
 
 // Blocks: the first `count` of the list.
 pub struct Blocks {
@@ -24,7 +24,7 @@ pub fn map_at(image: &[u8], block: usize) -> usize
 }
 
 // Stores the map value of a block.
-fn set_map(image: &mut [u8], block: usize, value: usize)
+pub fn set_map(image: &mut [u8], block: usize, value: usize)
     requires { ⌜ mapOffset block + 2 ≤ length (now image) ⌝ }
     ensures { λ _. ⌜ now (image .exit) ≡ setMap (now (image .entry)) block value ⌝ }
 {
@@ -159,12 +159,24 @@ pub fn link_blocks(image: &mut [u8], layout: layout::Layout, chosen: &[u16])
 // Frees blocks.
 pub fn clear_blocks(image: &mut [u8], layout: layout::Layout, freed: &[u16])
     requires { ⌜ Fits layout (now image) × ((b : ℕ) → In b (now freed) → b < layout .blocks) ⌝ }
-    ensures { λ _. ⌜ now (image .exit) ≡ freeAll (now (image .entry)) (now (freed .entry)) ⌝ }
+    ensures { λ _. ⌜ now (image .exit) ≡ setAll (now (image .entry)) (now (freed .entry)) 0 ⌝ }
 {
     let end = layout.blocks;
     let mut k = 0;
     while k < freed.len() {
         set_map(image, block_of(freed, k, end), 0);
+        k += 1;
+    }
+}
+
+// Marks the first blocks of a list.
+pub fn mark_blocks(marks: &mut [bool; 1600], list: &[u16; 1600], count: usize)
+    requires { ⌜ (count ≤ 1600) × (count ≤ length (now list)) × ((b : ℕ) → In b (take count (now list)) → b < 1600) ⌝ }
+    ensures { λ _. ⌜ now (marks .exit) ≡ marked (now (marks .entry)) (take count (now (list .entry))) ⌝ }
+{
+    let mut k = 0;
+    while k < count {
+        marks[wide(list[k])] = true;
         k += 1;
     }
 }

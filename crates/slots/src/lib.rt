@@ -68,7 +68,7 @@ pub fn has_identity(head: &[u8], layout: layout::Layout) -> bool
 }
 
 // Whether a slot is used and not well formed.
-fn is_malformed(head: &[u8], layout: layout::Layout, slot: usize) -> bool
+pub fn is_malformed(head: &[u8], layout: layout::Layout, slot: usize) -> bool
     requires { ⌜ LayoutRight layout × (slotOffset layout slot + 24 ≤ length (now head)) ⌝ }
     ensures { λ r. ⌜ r ≡ malformed layout (viewOf layout (bytes (now (head .entry)))) slot ⌝ }
 {
@@ -111,7 +111,7 @@ pub fn key(head: &[u8], at: usize) -> usize
 }
 
 // Whether a slot is used and its name's two halves have these keys.
-fn has_keys(head: &[u8], layout: layout::Layout, slot: usize, low: usize, high: usize) -> bool
+pub fn has_keys(head: &[u8], layout: layout::Layout, slot: usize, low: usize, high: usize) -> bool
     requires { ⌜ slotOffset layout slot + 24 ≤ length (now head) ⌝ }
     ensures { λ r. ⌜ r ≡ hasKeys layout (bytes (now (head .entry))) slot low high ⌝ }
 {

@@ -50,7 +50,7 @@ turn-back linked = refl
 turn-back apart = refl
 turn-back owner = refl
 
-same-turn : (q r : Rule) → turn q ≡ turn r → q ≡ r
+pub same-turn : (q r : Rule) → turn q ≡ turn r → q ≡ r
 same-turn q r e = sym (turn-back q) ∙ ap ruleAt e ∙ turn-back r
 
 -- a fact of every two slots from the same of every slot and a lower one
@@ -65,7 +65,7 @@ either-side P flip h s t p = go (decLt s t) (decLt t s)
 module _ (l : Layout) (v : View) where
   -- ---- each rule's search
 
-  abbrev test : Rule → ℕ → Bool
+  abbrev pub test : Rule → ℕ → Bool
   test system = badSystem l v
   test legal = malformed l v
   test single = repeated l v
@@ -73,7 +73,7 @@ module _ (l : Layout) (v : View) where
   test apart = sharing l v
   test owner = stray l v
 
-  abbrev from : Rule → ℕ
+  abbrev pub from : Rule → ℕ
   from system = 0
   from legal = 0
   from single = 0
@@ -81,7 +81,7 @@ module _ (l : Layout) (v : View) where
   from apart = 0
   from owner = l .first
 
-  abbrev size : Rule → ℕ
+  abbrev pub size : Rule → ℕ
   size system = l .system
   size legal = l .slots
   size single = l .slots
@@ -89,7 +89,7 @@ module _ (l : Layout) (v : View) where
   size apart = l .slots
   size owner = l .blocks - l .first
 
-  abbrev numberAt : Rule → ℕ → ℕ
+  abbrev pub numberAt : Rule → ℕ → ℕ
   numberAt system = λ k. 3
   numberAt legal = λ s. 4
   numberAt single = λ s. 5
@@ -109,7 +109,7 @@ module _ (l : Layout) (v : View) where
   linked-by s u Bad e n = (u, inl (refl, walk-astray l (v .map) _ _ e))
   linked-by s u Cut e n = (u, inr (refl, walk-miscounted l (v .map) _ _ e))
 
-  hits : (r : Rule) (p : ℕ) → from r ≤ p → p < from r + size r → test r p ≡ true → Breaks l v r (numberAt r p) p
+  pub hits : (r : Rule) (p : ℕ) → from r ≤ p → p < from r + size r → test r p ≡ true → Breaks l v r (numberAt r p) p
   unfolding badSystem malformed repeated hasNameOf broken sharing stray
   hits system k h q e = (refl, omega arith, eqb-false (v .map k) (l .reserved) (not-true (eqb (v .map k) (l .reserved)) e))
   hits legal s h q e =
@@ -138,18 +138,18 @@ module _ (l : Layout) (v : View) where
       )
 
   -- Where a rule is broken: in its range, its test holds, and the number is the search's.
-  record Met (r : Rule) (number place : ℕ) : Type 0 where
-    low : from r ≤ place
-    high : place < from r + size r
-    holds : test r place ≡ true
-    is : number ≡ numberAt r place
+  pub record Met (r : Rule) (number place : ℕ) : Type 0 where
+    pub low : from r ≤ place
+    pub high : place < from r + size r
+    pub holds : test r place ≡ true
+    pub is : number ≡ numberAt r place
 
   met-walk : (s number : ℕ) (w : Walk) → Used l v s → walkOf l v s ≡ w → isWhole w ≡ false → number ≡ faultOf w → Met linked number s
   unfolding broken
   met-walk s number w u e n k = record { low = omega arith; high = omega (arith, u .0); holds = true-both (used (v .entry s)) _ (u .1) (rw (e, n) refl); is = k ∙ ap faultOf (sym e) }
 
   module _ (right : LayoutRight l) where
-    misses : (r : Rule) (number p : ℕ) → Breaks l v r number p → Met r number p
+    pub misses : (r : Rule) (number p : ℕ) → Breaks l v r number p → Met r number p
     unfolding badSystem malformed repeated hasNameOf walkOf sharing chainOf stray
     misses system n k b = record { low = omega arith; high = omega (arith, b .1); holds = rw (ne-eqb (v .map k) (l .reserved) (b .2)) refl; is = b .0 }
     misses legal n s b = record {
@@ -193,11 +193,15 @@ module _ (l : Layout) (v : View) where
 
     -- ---- what a search finds
 
-    abbrev Unbroken : Rule → Type 0
+    abbrev pub Unbroken : Rule → Type 0
     Unbroken r = (number place : ℕ) → Breaks l v r number place → ⊥
 
+    -- a rule whose test holds nowhere in its range
+    pub quiet-unbroken : (r : Rule) → ((p : ℕ) → from r ≤ p → p < from r + size r → test r p ≡ false) → Unbroken r
+    quiet-unbroken r q n p b = let m = misses r n p b in clash (m .holds) (q p (m .low) (m .high))
+
     nowhere-unbroken : (r : Rule) → found r ≡ Nowhere → Unbroken r
-    nowhere-unbroken r e n p b = let m = misses r n p b in clash (m .holds) (nowhere→ (test r) (from r) (size r) e p (m .low) (m .high))
+    nowhere-unbroken r e = quiet-unbroken r (nowhere→ (test r) (from r) (size r) e)
 
     unbroken-nowhere : (r : Rule) → Unbroken r → found r ≡ Nowhere
     unbroken-nowhere r u = →nowhere (test r) (from r) (size r) (λ p h k. false-if (test r p) (λ t. u (numberAt r p) p (hits r p h k t)))
@@ -303,24 +307,41 @@ module _ (l : Layout) (v : View) where
     valid-unbroken w apart n s b = let t = b .1 in let k = t .2 in let z : s ≡ t .0 = w .apart s (t .0) (k .0) (k .1) (k .2) in omega (arith, t .1)
     valid-unbroken w owner n k b = let o = w .owner k (b .1) (b .2) in b .3 (o .0) (o .1)
 
+    -- so no test of its holds
+    pub valid-quiet : Valid l v → (r : Rule) (p : ℕ) → from r ≤ p → p < from r + size r → test r p ≡ false
+    valid-quiet w r p h k = false-if (test r p) (λ t. valid-unbroken w r (numberAt r p) p (hits r p h k t))
+
+    -- each rule by itself
+    pub unbroken-legal : Unbroken legal → (s : ℕ) → Used l v s → formed l (v .entry s) ≡ true
+    unbroken-legal u s w = true-if (formed l (v .entry s)) (λ e. u 4 s (refl, w, λ t. clash t e))
+
+    pub unbroken-single : Unbroken single → (s t : ℕ) → Used l v s → Used l v t → v .entry s .area ≡ v .entry t .area → s ≡ t
+    unbroken-single u s t x y e =
+        either-side (λ s t. (Used l v s × Used l v t) × (v .entry s .area ≡ v .entry t .area)) (λ s t p. ((p .0 .1, p .0 .0), sym (p .1)))
+        (λ s t h p. u 5 s (refl, p .0 .0, (t, h, p .0 .1, p .1))) s t ((x, y), e)
+
+    pub unbroken-linked : Unbroken linked → (s : ℕ) → Used l v s → Chained l (v .map) (linksFor (v .entry s .size)) (v .entry s .start)
+    unbroken-linked u s x = chained (walkOf l v s) refl
+      where
+        chained : (w : Walk) → walkOf l v s ≡ w → Chained l (v .map) (linksFor (v .entry s .size)) (v .entry s .start)
+        chained Whole e = walk-chained l (v .map) _ _ (unfold walkOf in e)
+        chained Bad e = absurd (u 6 s (linked-by s x Bad e refl))
+        chained Cut e = absurd (u 7 s (linked-by s x Cut e refl))
+
+    pub unbroken-apart : Unbroken apart → (s t b : ℕ) → Owns l v s b → Owns l v t b → s ≡ t
+    unbroken-apart u s t b x y =
+        either-side (λ s t. Owns l v s b × Owns l v t b) (λ s t p. (p .1, p .0)) (λ s t h p. u 8 s (refl, (t, h, (b, p .0, p .1)))) s t (x, y)
+
     unbroken-valid : ((r : Rule) → Unbroken r) → Valid l v
     unbroken-valid u = record {
       system = λ k h. eqb-true (v .map k) (l .reserved) (true-if (eqb (v .map k) (l .reserved)) (λ e. u system 3 k (refl, h, eqb-false (v .map k) (l .reserved) e)));
-      legal = λ s w. true-if (formed l (v .entry s)) (λ e. u legal 4 s (refl, w, λ t. clash t e));
-      single = λ s t x y e.
-          either-side (λ s t. (Used l v s × Used l v t) × (v .entry s .area ≡ v .entry t .area)) (λ s t p. ((p .0 .1, p .0 .0), sym (p .1)))
-          (λ s t h p. u single 5 s (refl, p .0 .0, (t, h, p .0 .1, p .1))) s t ((x, y), e);
-      linked = λ s w. chained s w (walkOf l v s) refl;
-      apart = λ s t b x y.
-          either-side (λ s t. Owns l v s b × Owns l v t b) (λ s t p. (p .1, p .0)) (λ s t h p. u apart 8 s (refl, (t, h, (b, p .0, p .1)))) s t (x, y);
+      legal = unbroken-legal (u legal);
+      single = unbroken-single (u single);
+      linked = unbroken-linked (u linked);
+      apart = unbroken-apart (u apart);
       owner = λ b d n. owned-or b d n (decIn b (owned v (l .slots)));
     }
       where
-        chained : (s : ℕ) → Used l v s → (w : Walk) → walkOf l v s ≡ w → Chained l (v .map) (linksFor (v .entry s .size)) (v .entry s .start)
-        chained s x Whole e = walk-chained l (v .map) _ _ (unfold walkOf in e)
-        chained s x Bad e = absurd (u linked 6 s (linked-by s x Bad e refl))
-        chained s x Cut e = absurd (u linked 7 s (linked-by s x Cut e refl))
-
         owned-or : (b : ℕ) → Data l b → (v .map b ≡ 0 → ⊥) → Dec (In b (owned v (l .slots))) → (s : ℕ) × Owns l v s b
         owned-or b d n (yes i) = let o = owned-by v (l .slots) b i in (o .0, ((o .1, o .2), o .3))
         owned-or b d n (no i) = absurd (u owner 9 b (refl, d, n, λ s o. i (by-owned v (l .slots) b s (o .0 .0) (o .0 .1) (o .1))))

@@ -2,13 +2,15 @@
 -- One definition and one law over the width, by induction on it. Assumes nothing.
 use mathlib.Core.Path.{_≡_, refl, sym, ap, ap₂, _∙_}
 use mathlib.Core.List.{List}
-use Prim.Native.Nat.{ℕ, zero, suc, _+_, _*_, _/_, _%_, _≤_, _<_}
+use Prim.Native.Nat.{ℕ, zero, suc, _+_, _-_, _*_, _/_, _%_, _≤_, _<_}
 use native.Mathlib.Nat.{add-zero, add-suc, suc-add}
 use native.Mathlib.Numerals.{add-one}
+use native.Mathlib.Decide.{decLt}
 use native.Mathlib.Omega.{arith}
 use lib.ListN.{length, getD, set}
+use lib.Seq.{ext-getD}
 use Rattle.laws.specs.Splice.{splice}
-use Rattle.laws.specs.Lemmas.Splice.{getD-splice-in}
+use Rattle.laws.specs.Lemmas.Splice.{length-splice, getD-splice-below, getD-splice-past, getD-splice-in}
 use Rattle.laws.specs.Reader.{bytes}
 use Rattle.laws.specs.Lemmas.Reader.{Agree}
 use Rattle.blocks.specs.Numbers.{number, digits, top, Number}
@@ -56,3 +58,37 @@ number-next width b at e h n = record { value = rw (e, n .value, add-one at); sm
 pub store-next : (width : ℕ) (l : List ℕ) (at v : ℕ) → splice (set l at (v % 256)) (at + 1) (digits width (v / 256)) ≡ splice l at (digits (suc width) v)
 unfolding splice digits
 store-next width l at v = rw (add-one at)
+
+-- ---- bytes are below 256
+
+pub number-small : (width : ℕ) (b : ℕ → ℕ) (at : ℕ) → ((i : ℕ) → b i < 256) → number width b at < top width
+unfolding number
+number-small zero b at small = omega arith
+number-small (suc width) b at small = omega (arith, small at, number-small width b (suc at) small)
+
+-- ---- a number stored over itself
+
+-- its digits are the bytes that it was read from
+number-digits : (width : ℕ) (b : ℕ → ℕ) (at k : ℕ) → ((i : ℕ) → b i < 256) → k < width → getD (digits width (number width b at)) k 0 ≡ b (at + k)
+unfolding digits number
+number-digits zero b at k small h = absurd (omega arith)
+number-digits (suc width) b at zero small h = let z : at + 0 ≡ at = omega arith in rw z (omega (arith, small at))
+number-digits (suc width) b at (suc k) small h =
+    let z : at + suc k ≡ suc at + k = omega arith in
+    let e : (b at + 256 * number width b (suc at)) / 256 ≡ number width b (suc at) = omega (arith, small at) in
+    rw (z, e) (number-digits width b (suc at) k small (omega arith))
+
+-- so storing it changes nothing
+pub digits-over : (width : ℕ) (l : List ℕ) (at : ℕ) → at + width ≤ length l → ((i : ℕ) → bytes l i < 256) → splice l at (digits width (number width (bytes l) at)) ≡ l
+digits-over width l at h small = ext-getD 0 (splice l at ds) l (length-splice l at ds) (λ i k. go i (decLt i at) (decLt i (at + width)))
+  where
+    ds : List ℕ
+    ds = digits width (number width (bytes l) at)
+
+    go : (i : ℕ) → Dec (i < at) → Dec (i < at + width) → getD (splice l at ds) i 0 ≡ getD l i 0
+    go i (yes p) q = getD-splice-below l at ds i p
+    go i (no p) (yes q) =
+        let z : at + (i - at) ≡ i = omega arith in
+        let n = length-digits width (number width (bytes l) at) in
+        rw (← z) (getD-splice-in l at ds (i - at) (omega (arith, n)) (omega (arith, n)) ∙ number-digits width (bytes l) at (i - at) small (omega arith))
+    go i (no p) (no q) = getD-splice-past l at ds i (omega (arith, length-digits width (number width (bytes l) at)))

@@ -11,7 +11,7 @@ use Rattle.laws.specs.Reader.{bytes}
 use Rattle.layout.specs.declared.Layout.{Layout}
 use Rattle.layout.specs.Layouts.{slotOffset}
 use Rattle.blocks.specs.Blocks.{linksFor}
-use Rattle.map.specs.Map.{mapAt, chain, Chained, freeAll}
+use Rattle.map.specs.Map.{mapAt, chain, Chained, setAll}
 use Rattle.map.specs.Lemmas.Chains.{chain-data}
 use Rattle.view.specs.Disk.{entryChain}
 use Rattle.image.specs.Image.{viewOf, eraseEntry, removeImage}
@@ -26,7 +26,7 @@ chained l img s p q c = rw (p, q) c
 
 -- what is left once the blocks of that chain are free and the slot is cleared
 erased : (l : Layout) (img : List ℕ) (s : ℕ) {size start : ℕ} {lent one two : List ℕ} → size ≡ viewOf l (bytes img) .entry s .size → start ≡ viewOf l (bytes img) .entry s .start
-    → lent ≡ chain (mapAt (bytes img)) (linksFor size) start → one ≡ freeAll img lent → two ≡ splice one (slotOffset l s) (replicate 22 0) → two ≡ removeImage l img s
+    → lent ≡ chain (mapAt (bytes img)) (linksFor size) start → one ≡ setAll img lent 0 → two ≡ splice one (slotOffset l s) (replicate 22 0) → two ≡ removeImage l img s
 unfolding removeImage eraseEntry entryChain
 erased l img s p q e f g = rw (g, f, e, p, q) refl
 

@@ -19,9 +19,9 @@ use Rattle.layout.specs.Right.{LayoutRight, DirectoryApart}
 use Rattle.blocks.specs.Lemmas.Numbers.{number-cong}
 use Rattle.blocks.specs.Blocks.{blockAt, writeBlocks}
 use Rattle.blocks.specs.Lemmas.Blocks.{read-cong, length-write, write-low, write-other, write-read}
-use Rattle.map.specs.Map.{Data, mapAt, freeAll, Outside}
+use Rattle.map.specs.Map.{Data, mapAt, setAll, Outside}
 use Rattle.map.specs.Lemmas.Chains.{Linked, linked-cong}
-use Rattle.map.specs.Lemmas.Linking.{length-link, link-other, link-outside, link-on, length-free, free-other, free-outside, free-zero}
+use Rattle.map.specs.Lemmas.Linking.{length-link, link-other, link-outside, link-on, length-set-all, set-all-other, set-all-outside, set-all-on}
 use Rattle.view.specs.Disk.{Entry, entryChain}
 use Rattle.view.specs.Lemmas.Remove.{Removed}
 use Rattle.view.specs.Lemmas.Put.{Stored}
@@ -35,10 +35,10 @@ module _ (l : Layout) (right : LayoutRight l) where
   dir-by i (inl h) p q = inl (omega arith)
   dir-by i (inr h) p q = inr (omega arith)
 
-  dir-outside : (t i : ℕ) → t < l .slots → slotOffset l t ≤ i → i < slotOffset l t + 24 → Outside (l .blocks) i
+  pub dir-outside : (t i : ℕ) → t < l .slots → slotOffset l t ≤ i → i < slotOffset l t + 24 → Outside (l .blocks) i
   dir-outside t i h p q = dir-by i (right .directory-apart) (omega arith) (omega arith)
 
-  data-outside : (b i : ℕ) → Data l b → blockOffset b ≤ i → Outside (l .blocks) i
+  pub data-outside : (b i : ℕ) → Data l b → blockOffset b ≤ i → Outside (l .blocks) i
   data-outside b i d p = inr (omega (arith, right .map-low, d .0))
 
   -- ---- a write of a slot's 22 bytes leaves the map, other slots, all identities and the data blocks
@@ -51,7 +51,7 @@ module _ (l : Layout) (right : LayoutRight l) where
     map-apart k i (inl h) c p q = inr (omega arith)
     map-apart k i (inr h) c p q = inl (omega arith)
 
-    map-after : (k : ℕ) → k < l .blocks → mapAt (bytes (splice img (slotOffset l s) vs)) k ≡ mapAt (bytes img) k
+    pub map-after : (k : ℕ) → k < l .blocks → mapAt (bytes (splice img (slotOffset l s) vs)) k ≡ mapAt (bytes img) k
     map-after k h =
         number-cong 2 (bytes img) (bytes (splice img (slotOffset l s) vs)) (mapOffset k) (λ i p q. off i (map-apart k i (right .directory-apart) h p q))
 
@@ -60,7 +60,7 @@ module _ (l : Layout) (right : LayoutRight l) where
     slot-apart t i (yes h) n p q = inl (omega arith)
     slot-apart t i (no h) n p q = inr (omega arith)
 
-    entry-after : (t : ℕ) → (t ≡ s → ⊥) → entryAt (bytes (splice img (slotOffset l s) vs)) (slotOffset l t) ≡ entryAt (bytes img) (slotOffset l t)
+    pub entry-after : (t : ℕ) → (t ≡ s → ⊥) → entryAt (bytes (splice img (slotOffset l s) vs)) (slotOffset l t) ≡ entryAt (bytes img) (slotOffset l t)
     entry-after t n =
         entry-cong (bytes img) (bytes (splice img (slotOffset l s) vs)) (slotOffset l t) (λ i p q. off i (slot-apart t i (decLt t s) n p (omega arith)))
 
@@ -69,11 +69,11 @@ module _ (l : Layout) (right : LayoutRight l) where
     identity-apart t i (yes h) p q = inl (omega arith)
     identity-apart t i (no h) p q = inr (omega arith)
 
-    identity-after : (t : ℕ) → identityAt l (bytes (splice img (slotOffset l s) vs)) t ≡ identityAt l (bytes img) t
+    pub identity-after : (t : ℕ) → identityAt l (bytes (splice img (slotOffset l s) vs)) t ≡ identityAt l (bytes img) t
     identity-after t =
         number-cong 2 (bytes img) (bytes (splice img (slotOffset l s) vs)) (slotOffset l t + 22) (λ i p q. off i (identity-apart t i (decLt t s) p q))
 
-    block-after : (b : ℕ) → Data l b → blockAt (bytes (splice img (slotOffset l s) vs)) b ≡ blockAt (bytes img) b
+    pub block-after : (b : ℕ) → Data l b → blockAt (bytes (splice img (slotOffset l s) vs)) b ≡ blockAt (bytes img) b
     block-after b d =
         tab-cong (bytes img) (bytes (splice img (slotOffset l s) vs)) (blockOffset b) 1024 (λ i p q. off i (inr (omega (arith, right .directory-low, d .0))))
 
@@ -90,35 +90,35 @@ module _ (l : Layout) (right : LayoutRight l) where
     freed-below : (b : ℕ) → In b freed → b < l .blocks
     freed-below b i = inside b i .1
 
-    freed-dir : (t i : ℕ) → t < l .slots → slotOffset l t ≤ i → i < slotOffset l t + 24 → bytes (freeAll img freed) i ≡ bytes img i
-    freed-dir t i h p q = free-outside img freed (l .blocks) i freed-below (dir-outside t i h p q)
+    freed-dir : (t i : ℕ) → t < l .slots → slotOffset l t ≤ i → i < slotOffset l t + 24 → bytes (setAll img freed 0) i ≡ bytes img i
+    freed-dir t i h p q = set-all-outside img freed 0 (l .blocks) i freed-below (dir-outside t i h p q)
 
     pub removed : Removed l (viewOf l (bytes img)) s (viewOf l (bytes (removeImage l img s)))
     unfolding removeImage eraseEntry
     removed =
-        let one = freeAll img freed in
-        let n : length one ≡ length img = length-free img freed in
+        let one = setAll img freed 0 in
+        let n : length one ≡ length img = length-set-all img freed 0 in
         record {
           gone = erased-type one (slotOffset l s) (omega (arith, right .directory-low, right .data-some));
           kept = λ t h ne.
               entry-after one s (replicate 22 0) slot zeros t ne
               ∙ entry-cong (bytes img) (bytes one) (slotOffset l t) (λ i p q. freed-dir t i h p (omega arith));
-          freed = λ b i. map-after one s (replicate 22 0) slot zeros b (freed-below b i) ∙ free-zero img freed (l .blocks) b freed-below (omega (arith, right .map-low, right .data-some)) i;
-          other = λ b h o. map-after one s (replicate 22 0) slot zeros b h ∙ free-other img freed b o;
+          freed = λ b i. map-after one s (replicate 22 0) slot zeros b (freed-below b i) ∙ set-all-on img freed 0 (l .blocks) b (omega arith) freed-below (omega (arith, right .map-low, right .data-some)) i;
+          other = λ b h o. map-after one s (replicate 22 0) slot zeros b h ∙ set-all-other img freed 0 b o;
           block = λ b d.
               block-after one s (replicate 22 0) slot zeros b d
-              ∙ tab-cong (bytes img) (bytes one) (blockOffset b) 1024 (λ i p q. free-outside img freed (l .blocks) i freed-below (data-outside b i d p));
+              ∙ tab-cong (bytes img) (bytes one) (blockOffset b) 1024 (λ i p q. set-all-outside img freed 0 (l .blocks) i freed-below (data-outside b i d p));
         }
 
     pub remove-length : length (removeImage l img s) ≡ length img
     unfolding removeImage eraseEntry
-    remove-length = length-splice (freeAll img freed) (slotOffset l s) (replicate 22 0) ∙ length-free img freed
+    remove-length = length-splice (setAll img freed 0) (slotOffset l s) (replicate 22 0) ∙ length-set-all img freed 0
 
     pub remove-identity : (t : ℕ) → t < l .slots → identityAt l (bytes (removeImage l img s)) t ≡ identityAt l (bytes img) t
     unfolding removeImage eraseEntry
     remove-identity t h =
-        identity-after (freeAll img freed) s (replicate 22 0) slot zeros t
-        ∙ number-cong 2 (bytes img) (bytes (freeAll img freed)) (slotOffset l t + 22) (λ i p q. freed-dir t i h (omega arith) (omega arith))
+        identity-after (setAll img freed 0) s (replicate 22 0) slot zeros t
+        ∙ number-cong 2 (bytes img) (bytes (setAll img freed 0)) (slotOffset l t + 22) (λ i p q. freed-dir t i h (omega arith) (omega arith))
 
   -- ---- put
 

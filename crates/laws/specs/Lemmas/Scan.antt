@@ -1,17 +1,21 @@
--- Searches, counts, sums and tests over a range of numbers, with the laws of a loop that makes them: its end, its stop, its next turn.
+-- Searches, counts, lists, sums and tests over a range of numbers, with the laws of a loop that makes them: its end, its stop, its next turn.
 -- All are one fold, `over`, so each law is one citation of the fold's. Assumes nothing.
 use mathlib.Core.Path.{_≡_, refl, sym, ap, _∙_}
 use mathlib.Core.Bool.{Bool, true, false, not, true≢false}
+use mathlib.Core.List.{List, [], _∷_}
+use mathlib.Core.Logic.{_⊎_, inl, inr, ⊎-elim}
 use Prim.Native.Nat.{ℕ, zero, suc, _+_, _-_, _≤_, _<_}
 use native.Mathlib.Decide.{ℕ-discrete, decLt}
-use native.Mathlib.Nat.{add-zero, add-suc, suc-add}
+use native.Mathlib.Nat.{add-zero, zero-add, add-suc, suc-add}
 use native.Mathlib.Numerals.{add-one}
 use native.Mathlib.Omega.{arith}
+use lib.ListN.{length}
 use Rattle.laws.specs.declared.Lowest.{Lowest}
 use Rattle.laws.specs.declared.Lowest.the-variants.{At, Nowhere}
 use Rattle.laws.specs.Truth.{pick, both, within}
 use Rattle.laws.specs.Lemmas.Truth.{clash, within-in, within-below, within-above}
-use Rattle.laws.specs.Scan.{over, lowest, count, all, any, total}
+use Rattle.laws.specs.Member.{In, Distinct}
+use Rattle.laws.specs.Scan.{over, lowest, count, those, all, any, total}
 
 -- ---- the fold
 
@@ -178,6 +182,92 @@ count-agree f g i (suc n) w e k h l t =
     go ih le false true p q d = absurd (omega (arith, e, count-no f i n p, count-yes g i n q))
     go ih le false false p q (yes d) = ih (omega (arith, e, count-no f i n p, count-no g i n q)) k (omega arith) (omega arith) t
     go ih le false false p q (no d) = let z : k ≡ i = omega arith in absurd (clash t (ap g z ∙ q))
+
+-- none passes
+pub count-never : (f : ℕ → Bool) (i n : ℕ) → ((k : ℕ) → i ≤ k → k < i + n → f k ≡ false) → count f i n ≡ 0
+count-never f i zero h = unfold count in refl
+count-never f i (suc n) h = count-no f i n (h i (omega arith) (omega arith)) ∙ count-never f (suc i) n (λ k p q. h k (omega arith) (omega arith))
+
+-- a range in two parts
+pub count-append : (f : ℕ → Bool) (i a n : ℕ) → count f i (a + n) ≡ count f i a + count f (i + a) n
+count-append f i zero n = unfold count in rw (zero-add n, add-zero i) (omega arith)
+count-append f i (suc a) n = go (f i) refl (count-append f (suc i) a n)
+  where
+    go : (t : Bool) → f i ≡ t → count f (suc i) (a + n) ≡ count f (suc i) a + count f (suc i + a) n → count f i (suc a + n) ≡ count f i (suc a) + count f (i + suc a) n
+    go true e ih = rw (suc-add a n, add-suc i a, ← suc-add i a) (omega (arith, ih, count-yes f i (a + n) e, count-yes f i a e))
+    go false e ih = rw (suc-add a n, add-suc i a, ← suc-add i a) (omega (arith, ih, count-no f i (a + n) e, count-no f i a e))
+
+-- ---- those that pass, as a list
+
+module _ (f : ℕ → Bool) (i n : ℕ) where
+  pub those-end : n ≤ i → those f i (n - i) ≡ []
+  unfolding those
+  those-end h = over-end _ [] i n h
+
+  pub those-stop : i < n → f i ≡ true → those f i (n - i) ≡ i ∷ those f (i + 1) (n - (i + 1))
+  unfolding those
+  those-stop h e = over-next _ [] i n h ∙ rw e refl
+
+  pub those-on : i < n → f i ≡ false → those f i (n - i) ≡ those f (i + 1) (n - (i + 1))
+  unfolding those
+  those-on h e = over-next _ [] i n h ∙ rw e refl
+
+pub those-cong : (f g : ℕ → Bool) (i n : ℕ) → ((k : ℕ) → i ≤ k → k < i + n → f k ≡ g k) → those f i n ≡ those g i n
+unfolding those
+those-cong f g i n h = over-cong _ _ [] i n (λ k p q r. ap (λ (t : Bool). pick t (k ∷ r) r) (h k p q))
+
+in-pick : (t : Bool) (b x : ℕ) (bs : List ℕ) → In x (pick t (b ∷ bs) bs) → ((t ≡ true) × (x ≡ b)) ⊎ In x bs
+in-pick true b x bs (inl e) = inl (refl, e)
+in-pick true b x bs (inr h) = inr h
+in-pick false b x bs h = inr h
+
+pub in-those : (f : ℕ → Bool) (i n x : ℕ) → In x (those f i n) → (i ≤ x) × (x < i + n) × (f x ≡ true)
+unfolding those
+in-those f i zero x h = absurd h
+in-those f i (suc n) x h =
+    ⊎-elim (λ p. (omega (arith, p .1), omega (arith, p .1), ap f (p .1) ∙ p .0))
+    (λ q. let r = in-those f (suc i) n x q in (omega (arith, r .0), omega (arith, r .1), r .2)) (in-pick (f i) i x (those f (suc i) n) h)
+
+pick-here : (t : Bool) (x : ℕ) (bs : List ℕ) → t ≡ true → In x (pick t (x ∷ bs) bs)
+pick-here true x bs e = inl refl
+pick-here false x bs e = absurd (clash e refl)
+
+pick-later : (t : Bool) (b x : ℕ) (bs : List ℕ) → In x bs → In x (pick t (b ∷ bs) bs)
+pick-later true b x bs h = inr h
+pick-later false b x bs h = h
+
+pub those-in : (f : ℕ → Bool) (i n x : ℕ) → i ≤ x → x < i + n → f x ≡ true → In x (those f i n)
+unfolding those
+those-in f i zero x h l e = absurd (omega arith)
+those-in f i (suc n) x h l e = go (ℕ-discrete x i) (those-in f (suc i) n x)
+  where
+    go : Dec (x ≡ i) → (suc i ≤ x → x < suc i + n → f x ≡ true → In x (those f (suc i) n)) → In x (those f i (suc n))
+    go (yes p) ih = rw p (pick-here (f i) i (those f (suc i) n) (ap f (sym p) ∙ e))
+    go (no p) ih = pick-later (f i) i x (those f (suc i) n) (ih (omega arith) (omega arith) e)
+
+pub those-none : (f : ℕ → Bool) (i n : ℕ) → ((k : ℕ) → i ≤ k → k < i + n → f k ≡ false) → those f i n ≡ []
+unfolding those
+those-none f i zero h = refl
+those-none f i (suc n) h = rw (h i (omega arith) (omega arith)) (those-none f (suc i) n (λ k p q. h k (omega arith) (omega arith)))
+
+distinct-pick : (t : Bool) (b : ℕ) (bs : List ℕ) → (In b bs → ⊥) → Distinct bs → Distinct (pick t (b ∷ bs) bs)
+distinct-pick true b bs n d = (n, d)
+distinct-pick false b bs n d = d
+
+pub those-distinct : (f : ℕ → Bool) (i n : ℕ) → Distinct (those f i n)
+unfolding those
+those-distinct f i zero = tt
+those-distinct f i (suc n) =
+    distinct-pick (f i) i (those f (suc i) n) (λ h. let r = in-those f (suc i) n i h in omega (arith, r .0)) (those-distinct f (suc i) n)
+
+pub those-count : (f : ℕ → Bool) (i n : ℕ) → length (those f i n) ≡ count f i n
+unfolding those
+those-count f i zero = unfold count in refl
+those-count f i (suc n) = go (those-count f (suc i) n) (f i) refl
+  where
+    go : length (those f (suc i) n) ≡ count f (suc i) n → (t : Bool) → f i ≡ t → length (those f i (suc n)) ≡ count f i (suc n)
+    go ih true e = rw e (ap suc ih) ∙ sym (count-yes f i n e)
+    go ih false e = rw e ih ∙ sym (count-no f i n e)
 
 -- ---- tests of all and of any
 

@@ -5,13 +5,13 @@ use Prim.Native.Nat.{_-_, _≤_}
 use native.Mathlib.Omega.{arith}
 use borrow.Author.Needs.{needs}
 use lib.ListN.{length, drop, getD}
-use Rattle.map.specs.Map.{setMap, freeAll}
-use Rattle.map.specs.Lemmas.Linking.{length-set-map, free-all-end, free-all-next}
+use Rattle.map.specs.Map.{setMap, setAll}
+use Rattle.map.specs.Lemmas.Linking.{length-set-map, set-all-end, set-all-next}
 use Rattle.map.proofs.clear_blocks.Statement.{statement}
 use Rattle.map.proofs.clear_blocks.Tie as tie
 
 abbrev Inv-loop : tie.InvT-loop
-Inv-loop image₀ freed end k₀ image k = (k ≤ length freed) × (length image ≡ length image₀) × (freeAll image (drop k freed) ≡ freeAll image₀ freed)
+Inv-loop image₀ freed end k₀ image k = (k ≤ length freed) × (length image ≡ length image₀) × (setAll image (drop k freed) 0 ≡ setAll image₀ freed 0)
 
 abbrev μ-loop : tie.MeasureT-loop
 μ-loop image₀ freed end k₀ image k = length freed - k
@@ -31,14 +31,14 @@ loop-again c =
     rw (← b .block-of .ensures .0) (c .before .before .set-map .ensures) in (
       omega arith,
       ap length e ∙ length-set-map (l .image) _ _ ∙ l .inv .1,
-      rw e (sym (free-all-next (l .image) (a .freed .now) (l .k) (omega arith)) ∙ l .inv .2),
+      rw e (sym (set-all-next (l .image) (a .freed .now) 0 (l .k) (omega arith)) ∙ l .inv .2),
     )
 
 returns : tie.Need-returns Inv-loop μ-loop
 returns c =
     let l = c .before .loop in
     let a = c .before .before .before .before .args in
-    sym (free-all-end (l .image) (a .freed .now) (l .k) (omega arith)) ∙ l .inv .2
+    sym (set-all-end (l .image) (a .freed .now) 0 (l .k) (omega arith)) ∙ l .inv .2
 
 pub clear-blocks-spec : {M : Type 1} → statement M
 clear-blocks-spec =

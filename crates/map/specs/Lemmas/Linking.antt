@@ -1,4 +1,4 @@
--- The map after a value was set, blocks were chained or freed: what it holds there and elsewhere, and which bytes stay.
+-- The map after a value was set, blocks were chained or given one value: what it holds there and elsewhere, and which bytes stay.
 -- A map value is two bytes, apart from every other's; the rest is by induction on the blocks. Assumes nothing.
 use mathlib.Core.Path.{_≡_, refl, ap, _∙_}
 use mathlib.Core.List.{List, [], _∷_}
@@ -16,8 +16,8 @@ use Rattle.laws.specs.Member.{In, Distinct}
 use Rattle.laws.specs.Lemmas.Member.{decIn}
 use Rattle.layout.specs.Layouts.{mapOffset}
 use Rattle.blocks.specs.Numbers.{digits}
-use Rattle.blocks.specs.Lemmas.Numbers.{number-cong, number-same}
-use Rattle.map.specs.Map.{mapAt, setMap, firstOr, linkBlocks, freeAll, Outside}
+use Rattle.blocks.specs.Lemmas.Numbers.{number-cong, number-same, digits-over}
+use Rattle.map.specs.Map.{mapAt, setMap, firstOr, linkBlocks, setAll, Outside}
 use Rattle.map.specs.Lemmas.Chains.{Linked}
 
 -- ---- one map value
@@ -34,6 +34,11 @@ set-off : (img : List ℕ) (b v i : ℕ) → (i < mapOffset b) ⊎ (mapOffset b 
 unfolding setMap
 set-off img b v i h = splice-off img (mapOffset b) (digits 2 v) i h
 
+-- storing a value over itself changes nothing, bytes being below 256
+pub set-same : (img : List ℕ) (b : ℕ) → mapOffset b + 2 ≤ length img → ((i : ℕ) → bytes img i < 256) → setMap img b (mapAt (bytes img) b) ≡ img
+unfolding setMap
+set-same img b h small = digits-over 2 img (mapOffset b) h small
+
 -- a byte of no map value of these blocks
 abbrev pub Off : List ℕ → ℕ → Type 0
 Off bs i = (b : ℕ) → In b bs → (i < mapOffset b) ⊎ (mapOffset b + 2 ≤ i)
@@ -42,6 +47,9 @@ Off bs i = (b : ℕ) → In b bs → (i < mapOffset b) ⊎ (mapOffset b + 2 ≤ 
 off-by : (c b i : ℕ) → (c ≡ b → ⊥) → Dec (c < b) → mapOffset c ≤ i → i < mapOffset c + 2 → (i < mapOffset b) ⊎ (mapOffset b + 2 ≤ i)
 off-by c b i n (yes p) x y = inl (omega arith)
 off-by c b i n (no p) x y = inr (omega arith)
+
+pub map-other : (img : List ℕ) (b v c : ℕ) → (c ≡ b → ⊥) → mapAt (bytes (setMap img b v)) c ≡ mapAt (bytes img) c
+map-other img b v c n = number-cong 2 (bytes img) (bytes (setMap img b v)) (mapOffset c) (λ i x y. set-off img b v i (off-by c b i n (decLt c b) x y))
 
 off-other : (bs : List ℕ) (c i : ℕ) → (In c bs → ⊥) → mapOffset c ≤ i → i < mapOffset c + 2 → Off bs i
 off-other bs c i n x y b j = off-by c b i (λ e. n (rw e j)) (decLt c b) x y
@@ -85,35 +93,35 @@ link-on img (b ∷ bs) mark n d h k m s =
       link-on (setMap img b v) bs mark n (d .1) (λ x i. h x (inr i)) k m (omega (arith, length-set-map img b v)),
     )
 
--- ---- freed blocks
+-- ---- one value at some blocks
 
-pub length-free : (img bs : List ℕ) → length (freeAll img bs) ≡ length img
-unfolding freeAll
-length-free img [] = refl
-length-free img (b ∷ bs) = length-free (setMap img b 0) bs ∙ length-set-map img b 0
+pub length-set-all : (img bs : List ℕ) (v : ℕ) → length (setAll img bs v) ≡ length img
+unfolding setAll
+length-set-all img [] v = refl
+length-set-all img (b ∷ bs) v = length-set-all (setMap img b v) bs v ∙ length-set-map img b v
 
-pub free-off : (img bs : List ℕ) (i : ℕ) → Off bs i → bytes (freeAll img bs) i ≡ bytes img i
-unfolding freeAll
-free-off img [] i o = refl
-free-off img (b ∷ bs) i o = free-off (setMap img b 0) bs i (λ x k. o x (inr k)) ∙ set-off img b 0 i (o b (inl refl))
+pub set-all-off : (img bs : List ℕ) (v i : ℕ) → Off bs i → bytes (setAll img bs v) i ≡ bytes img i
+unfolding setAll
+set-all-off img [] v i o = refl
+set-all-off img (b ∷ bs) v i o = set-all-off (setMap img b v) bs v i (λ x k. o x (inr k)) ∙ set-off img b v i (o b (inl refl))
 
-pub free-other : (img bs : List ℕ) (c : ℕ) → (In c bs → ⊥) → mapAt (bytes (freeAll img bs)) c ≡ mapAt (bytes img) c
-free-other img bs c n = number-cong 2 (bytes img) (bytes (freeAll img bs)) (mapOffset c) (λ i x y. free-off img bs i (off-other bs c i n x y))
+pub set-all-other : (img bs : List ℕ) (v c : ℕ) → (In c bs → ⊥) → mapAt (bytes (setAll img bs v)) c ≡ mapAt (bytes img) c
+set-all-other img bs v c n = number-cong 2 (bytes img) (bytes (setAll img bs v)) (mapOffset c) (λ i x y. set-all-off img bs v i (off-other bs c i n x y))
 
-pub free-outside : (img bs : List ℕ) (n i : ℕ) → ((b : ℕ) → In b bs → b < n) → Outside n i → bytes (freeAll img bs) i ≡ bytes img i
-free-outside img bs n i h o = free-off img bs i (off-outside bs n i h o)
+pub set-all-outside : (img bs : List ℕ) (v n i : ℕ) → ((b : ℕ) → In b bs → b < n) → Outside n i → bytes (setAll img bs v) i ≡ bytes img i
+set-all-outside img bs v n i h o = set-all-off img bs v i (off-outside bs n i h o)
 
--- freed blocks hold 0
-pub free-zero : (img bs : List ℕ) (n c : ℕ) → ((b : ℕ) → In b bs → b < n) → mapOffset n ≤ length img → In c bs → mapAt (bytes (freeAll img bs)) c ≡ 0
-unfolding freeAll
-free-zero img [] n c h s i = absurd i
-free-zero img (b ∷ bs) n c h s i = go (free-zero (setMap img b 0) bs n c (λ x k. h x (inr k)) (omega (arith, length-set-map img b 0))) (decIn c bs) i
+-- these blocks hold it
+pub set-all-on : (img bs : List ℕ) (v n c : ℕ) → v < 65536 → ((b : ℕ) → In b bs → b < n) → mapOffset n ≤ length img → In c bs → mapAt (bytes (setAll img bs v)) c ≡ v
+unfolding setAll
+set-all-on img [] v n c w h s i = absurd i
+set-all-on img (b ∷ bs) v n c w h s i = go (set-all-on (setMap img b v) bs v n c w (λ x k. h x (inr k)) (omega (arith, length-set-map img b v))) (decIn c bs) i
   where
-    go : (In c bs → mapAt (bytes (freeAll (setMap img b 0) bs)) c ≡ 0) → Dec (In c bs) → (c ≡ b) ⊎ In c bs → mapAt (bytes (freeAll (setMap img b 0) bs)) c ≡ 0
+    go : (In c bs → mapAt (bytes (setAll (setMap img b v) bs v)) c ≡ v) → Dec (In c bs) → (c ≡ b) ⊎ In c bs → mapAt (bytes (setAll (setMap img b v) bs v)) c ≡ v
     go ih (yes p) q = ih p
     go ih (no p) (inl e) =
         let low : b < n = h b (inl refl) in
-        free-other (setMap img b 0) bs c p ∙ ap (mapAt (bytes (setMap img b 0))) e ∙ map-same img b 0 (omega arith) (omega arith)
+        set-all-other (setMap img b v) bs v c p ∙ ap (mapAt (bytes (setMap img b v))) e ∙ map-same img b v (omega arith) w
     go ih (no p) (inr k) = ih k
 
 -- ---- loops over the blocks: what remains of them from index k on
@@ -140,10 +148,10 @@ pub link-next : (img bs : List ℕ) (k mark : ℕ) → k < length bs
 unfolding linkBlocks
 link-next img bs k mark h = rw (drop-cons bs k 0 h, add-one)
 
-pub free-all-end : (img bs : List ℕ) (k : ℕ) → length bs ≤ k → freeAll img (drop k bs) ≡ img
-unfolding freeAll
-free-all-end img bs k h = rw (drop-of-length-le bs h)
+pub set-all-end : (img bs : List ℕ) (v k : ℕ) → length bs ≤ k → setAll img (drop k bs) v ≡ img
+unfolding setAll
+set-all-end img bs v k h = rw (drop-of-length-le bs h)
 
-pub free-all-next : (img bs : List ℕ) (k : ℕ) → k < length bs → freeAll img (drop k bs) ≡ freeAll (setMap img (getD bs k 0) 0) (drop (k + 1) bs)
-unfolding freeAll
-free-all-next img bs k h = rw (drop-cons bs k 0 h, add-one)
+pub set-all-next : (img bs : List ℕ) (v k : ℕ) → k < length bs → setAll img (drop k bs) v ≡ setAll (setMap img (getD bs k 0) v) (drop (k + 1) bs) v
+unfolding setAll
+set-all-next img bs v k h = rw (drop-cons bs k 0 h, add-one)

@@ -4,12 +4,12 @@ use mathlib.Core.Path.{_≡_, refl, sym, ap, _∙_}
 use mathlib.Core.Bool.{Bool, true, false}
 use mathlib.Core.List.{List, [], _∷_, _++_, append-nil}
 use mathlib.Core.Logic.{inl, inr, ⊎-elim}
-use Prim.Native.Nat.{ℕ, zero, suc, _+_, _-_, _<_}
+use Prim.Native.Nat.{ℕ, zero, suc, _+_, _-_, _≤_, _<_}
 use native.Mathlib.Decide.{ℕ-discrete}
-use native.Mathlib.Numerals.{sub-one}
+use native.Mathlib.Numerals.{add-one, sub-one}
 use native.Mathlib.Omega.{arith}
-use lib.ListN.{getD, set, replicate, length-set, length-replicate}
-use lib.Seq.{getD-set-same, getD-set-other, append-snoc}
+use lib.ListN.{length, drop, getD, set, replicate, length-set, length-replicate, drop-of-length-le}
+use lib.Seq.{drop-cons, getD-set-same, getD-set-other, append-snoc}
 use Rattle.laws.specs.Lemmas.Truth.{same-truth}
 use Rattle.laws.specs.Lists.{meets}
 use Rattle.laws.specs.Member.{In, has}
@@ -48,6 +48,15 @@ unfolding marked
 marks-more n [] ms xs h m = rw (append-nil xs) m
 marks-more n (b ∷ bs) ms xs h m =
     rw (append-snoc xs b bs) at (marks-more n bs (set ms b true) (xs ++ (b ∷ [])) (λ x i. h x (inr i)) (marks-one n ms xs b (h b (inl refl)) m))
+
+-- what remains of the blocks from index k on
+pub marked-end : (ms : List Bool) (bs : List ℕ) (k : ℕ) → length bs ≤ k → marked ms (drop k bs) ≡ ms
+unfolding marked
+marked-end ms bs k h = rw (drop-of-length-le bs h)
+
+pub marked-next : (ms : List Bool) (bs : List ℕ) (k : ℕ) → k < length bs → marked ms (drop k bs) ≡ marked (set ms (getD bs k 0) true) (drop (k + 1) bs)
+unfolding marked
+marked-next ms bs k h = rw (drop-cons bs k 0 h, add-one)
 
 -- a chain touches the marks where it meets the blocks
 pub touched-meets : (n : ℕ) (ms : List Bool) (xs bs : List ℕ) → ((b : ℕ) → In b bs → b < n) → Marks n ms xs → touched ms bs ≡ meets xs bs

@@ -16,6 +16,7 @@ use Rattle.laws.specs.Reader.{tab}
 use Rattle.layout.specs.declared.Layout.{Layout}
 use Rattle.layout.specs.Layouts.{slotOffset}
 use Rattle.blocks.specs.Numbers.{number, top}
+use Rattle.blocks.specs.Lemmas.Numbers.{number-small}
 use Rattle.view.specs.Disk.{Entry, used}
 use Rattle.view.specs.Rules.{hasNameOf}
 use Rattle.image.specs.Image.{entryAt, viewOf}
@@ -60,11 +61,6 @@ module _ (b c : ℕ → ℕ) where
       let low : b x ≡ c y = omega (arith, p x, q y) in
       let rest : number width b (suc x) ≡ number width c (suc y) = omega (arith, p x, q y) in
       ap₂ (λ (u : ℕ) (v : List ℕ). u ∷ v) low (number-tab p q width (suc x) (suc y) rest)
-
-number-small : (width : ℕ) (b : ℕ → ℕ) (x : ℕ) → ((k : ℕ) → b k < 256) → number width b x < top width
-unfolding number
-number-small zero b x small = omega arith
-number-small (suc width) b x small = omega (arith, small x, number-small width b (suc x) small)
 
 -- ---- names
 
