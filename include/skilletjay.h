@@ -7,9 +7,9 @@
  * `refusal` is SJ_DONE, 0, when the call was done, else the number of the refusal; then `place` is its place and every other field is 0.
  *
  * Calls share nothing. Any number of them may read one image at once, each from a thread of its own; one that writes to it (sj_put, sj_remove,
- * sj_run) needs it alone.
+ * sj_salvage, sj_run) needs it alone.
  *
- * Every call on an image checks it first and refuses by 1 to 9 before it looks at its other arguments.
+ * Every call on an image but sj_salvage checks it first and refuses by 1 to 9 before it looks at its other arguments.
  */
 #ifndef SKILLETJAY_H
 #define SKILLETJAY_H
@@ -138,6 +138,16 @@ sj_found sj_put(uint8_t *image, size_t image_len, const uint8_t *name, size_t na
 /* Removes the file with a name, which is as for sj_find: its slot becomes zeros but for the identity, its blocks free; data bytes stay. Refusals
  * 1 to 9, then 11, then 10. The name is lent and kept; so is the image on a refusal. */
 sj_done sj_remove(uint8_t *image, size_t image_len, const uint8_t *name, size_t name_len);
+
+/* Mends an image in place and says slot by slot what was lost: refusals 1 and 2, then 21 for a report of under 64 bytes, and none else. Slots are taken
+ * in rising order. The report's first 64 bytes become 0 for an empty slot, 1 for one that is kept, else the number that it is dropped for, the first
+ * that applies: SJ_MALFORMED_SLOT, SJ_NAME_TWICE if a kept lower slot has its name, SJ_CHAIN_ASTRAY or SJ_CHAIN_LENGTH by the map as given, SJ_SHARED_BLOCK if
+ * a kept lower slot's chain has one of its blocks. A dropped slot's bytes become those that sj_remove leaves; then the map values of data blocks on no kept
+ * chain become 0, those of an S1000 disk's system blocks 16,384. Gives how many map values are others than before. No data byte changes.
+ *
+ * The image is accepted afterwards, and what is kept reads as its own chain says; an accepted image comes back as it was, with a count of 0. The
+ * report's other bytes are kept; on a refusal all of them are, and the image too. */
+sj_counted sj_salvage(uint8_t *image, size_t image_len, uint8_t *report, size_t report_len);
 
 /* Makes the calls of a script one after another on one image, and gives how many were made. It ends at the script's end, before the first entry
  * that is no call, or where the output has no part left. Each entry is 20 bytes, numbers least significant byte first:

@@ -4,10 +4,12 @@ use mathlib.Core.List.{List, []}
 use Prim.Native.Nat.{ℕ}
 use lib.ListN.{length, take, replicate}
 use Rattle.laws.specs.Padded.{padded}
-use Rattle.record.specs.Record.{Call, list, find, page, put, remove, Answer, entry, valued, paged, done, refusedBy, Outcome}
+use Rattle.record.specs.Record.{Call, list, find, page, put, remove, salvage, Answer, entry, valued, paged, done, refusedBy, Outcome}
 use Rattle.record.specs.declared.Judged.{Judged}
 use Rattle.record.specs.declared.Judged.the-variants.{Refuse, Grant}
 use Rattle.laws.specs.declared.Refusal.{Refusal}
+use Rattle.laws.specs.declared.Counted.{Counted}
+use Rattle.laws.specs.declared.Counted.the-variants as counted
 use Rattle.rules.specs.declared.Checked.the-variants.{Refused}
 use Rattle.rules.specs.Check.{came}
 use Rattle.pages.specs.Cost.{noCost}
@@ -45,6 +47,11 @@ unpagedBy r = record { paged = pages.Refused r; cost = noCost }
 abbrev pub removedOf : Removed → Answer
 removedOf removals.Done = done
 removedOf (removals.Refused r) = refusedBy r
+
+-- Salvage's.
+abbrev pub countedOf : Counted → Answer
+countedOf (counted.Done n) = valued n
+countedOf (counted.Refused r) = refusedBy r
 
 -- List's: the name is the first letters of the 12 bytes beside the answer.
 abbrev pub entryOf : Entry → List ℕ → Answer
@@ -84,3 +91,6 @@ putCall name type content = put name type content
 
 abbrev pub removeCall : List ℕ → Call
 removeCall name = remove name
+
+abbrev pub salvageCall : List ℕ → Call
+salvageCall report = salvage report

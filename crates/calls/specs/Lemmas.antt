@@ -6,3 +6,4 @@ pub mod Finding
 pub mod Paging
 pub mod Putting
 pub mod Answers
+pub mod Salvaging

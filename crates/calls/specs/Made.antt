@@ -3,7 +3,8 @@
 use mathlib.Core.Path.{_≡_, refl, sym, ap, _∙_}
 use mathlib.Core.List.{List, []}
 use Prim.Native.Nat.{ℕ}
-use Rattle.record.specs.Record.{check, list, find, page, put, remove, Outcome}
+use Rattle.laws.specs.declared.Counted.{Counted}
+use Rattle.record.specs.Record.{check, list, find, page, put, remove, salvage, Outcome}
 use Rattle.record.specs.Step.{stepImage}
 use Rattle.rules.specs.declared.Checked.{Checked}
 use Rattle.rules.specs.declared.Checked.the-variants.{Accepted, Refused}
@@ -13,7 +14,7 @@ use Rattle.calls.specs.declared.Found.{Found}
 use Rattle.calls.specs.declared.Paged.{Paged}
 use Rattle.calls.specs.declared.Listed.{Listed}
 use Rattle.calls.specs.declared.Removed.{Removed}
-use Rattle.calls.specs.Answers.{foundOf, pagedOf, listedOf, removedOf, Lists}
+use Rattle.calls.specs.Answers.{foundOf, pagedOf, listedOf, removedOf, countedOf, Lists}
 use Rattle.calls.specs.Lemmas.Answers.{call-refused, call-accepted}
 
 abbrev pub FindMade : List ℕ → List ℕ → Found → Type 0
@@ -27,6 +28,9 @@ PutMade img name letter content r after = Made img (put name letter content) (fo
 
 abbrev pub RemoveMade : List ℕ → List ℕ → Removed → List ℕ → Type 0
 RemoveMade img name r after = Made img (remove name) (removedOf r) [] after
+
+abbrev pub SalvageMade : List ℕ → List ℕ → Counted → List ℕ → List ℕ → Type 0
+SalvageMade img report r said after = Made img (salvage report) (countedOf r) said after
 
 -- List promises its 12 bytes of a name besides.
 abbrev pub ListMade : List ℕ → ℕ → Listed → Type 0

@@ -1,4 +1,4 @@
-// The calls on any bytes: each takes the check's answer apart first, and promises what `callOf` says it comes to.
+// The calls on any bytes: each takes the check's answer apart first, salvage what is known of the image, and promises what `callOf` says it comes to.
 ghost use mathlib.Core.Path.{_≡_};
 ghost use mathlib.Core.List.{List, []};
 ghost use Prim.Native.Nat.{ℕ, _≤_};
@@ -6,14 +6,15 @@ ghost use lib.ListN.{length};
 ghost use Rattle.laws.specs.Reader.{bytes};
 ghost use Rattle.map.specs.Map.{mapAt, freeCount};
 ghost use Rattle.record.specs.Order.{roomFor};
+ghost use Rattle.layout.specs.Layouts.{imageLength};
 ghost use Rattle.layout.specs.Right.{LayoutRight};
 ghost use Rattle.image.specs.Image.{filesIn, DiskRules};
 ghost use Rattle.record.specs.Record.{slotOf, fileAt, judgeName, judgePut, listing, paging};
 ghost use Rattle.names.specs.Names.{legalName};
 ghost use Rattle.laws.specs.Refusals.{refusalAt};
 ghost use mathlib.Core.Bool.{true};
-ghost use Rattle.rules.specs.Check.{came, callOf};
-ghost use Rattle.calls.specs.Answers.{foundOf, foundBy, pagedOf, Lists, unlistedBy, unpagedBy, listCall, findCall, pageCall, putCall, removeCall, removedOf};
+ghost use Rattle.rules.specs.Check.{came, salvageAs, callOf};
+ghost use Rattle.calls.specs.Answers.{foundOf, foundBy, pagedOf, Lists, unlistedBy, unpagedBy, listCall, findCall, pageCall, putCall, removeCall, salvageCall, removedOf, countedOf};
 ghost use Rattle.calls.specs.Metered.{pageCost, costIn};
 
 // A slot, or a refusal.
@@ -385,5 +386,34 @@ pub fn remove(image: &mut [u8], name: &[u8]) -> Removed
             changes::remove_slot(image, layout, slot);
             Removed::Done
         }
+    }
+}
+
+// The salvage run on an image of a known layout: 21.
+fn salvage_known(image: &mut [u8], layout: layout::Layout, report: &mut [u8]) -> laws::Counted
+    requires { ⌜ LayoutRight layout × (length (now image) ≡ imageLength layout) ⌝ }
+    ensures { λ r. ⌜ came (countedOf r) (now (report .exit)) (now (image .exit)) ≡ salvageAs layout (now (image .entry)) (now (report .entry)) ⌝ }
+{
+    let slots = layout.slots;
+    if report.len() < slots {
+        return laws::Counted::Refused(laws::Refusal {
+            number: 21,
+            place: 0,
+        });
+    }
+    laws::Counted::Done(mend::salvage(image, layout, report))
+}
+
+// Mends an image: how many map values are others afterwards; what is said of each slot to the front of the report.
+pub fn salvage(image: &mut [u8], report: &mut [u8]) -> laws::Counted
+    ensures { λ r. ⌜ came (countedOf r) (now (report .exit)) (now (image .exit)) ≡ callOf (now (image .entry)) (salvageCall (now (report .entry))) ⌝ }
+{
+    let disk = disk::known(image, image.len());
+    match disk {
+        rules::Known::Disk { kind, density } => {
+            let layout = layout::layout_of(kind, density);
+            salvage_known(image, layout, report)
+        }
+        rules::Known::Unknown(refusal) => laws::Counted::Refused(refusal),
     }
 }

@@ -1,5 +1,5 @@
 // The map of an image's head: refusals 3 and 6 to 9, and the free blocks counted.
-// Only the check calls these; that directory and map lie in the head is shown by its length.
+// Only the check and the salvage run call these; that directory and map lie in the head is shown by its length.
 ghost use mathlib.Core.Path.{_≡_};
 ghost use mathlib.Core.Bool.{false};
 ghost use Prim.Native.Nat.{_+_, _-_, _≤_, _<_};
@@ -34,7 +34,7 @@ pub fn system_fault(head: &[u8], layout: layout::Layout) -> laws::Lowest
 }
 
 // How many blocks of a slot's chain come after the first.
-fn links_of(head: &[u8], layout: layout::Layout, slot: usize) -> usize
+pub fn links_of(head: &[u8], layout: layout::Layout, slot: usize) -> usize
     requires { ⌜ slotOffset layout slot + 24 ≤ length (now head) ⌝ }
     ensures { λ r. ⌜ r ≡ linksFor (viewOf layout (bytes (now (head .entry))) .entry slot .size) ⌝ }
 {

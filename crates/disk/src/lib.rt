@@ -1,4 +1,5 @@
-// The check (document 01, "The numbers given back"): refusals 1 to 9 in their order, and what an accepted image shows.
+// The check (document 01, "The numbers given back"): refusals 1 to 9 in their order, and what an accepted image shows. Its first step, 1 and 2, is the
+// salvage run's too.
 ghost use mathlib.Core.Path.{_≡_};
 ghost use Prim.Native.Nat.{_≤_};
 ghost use lib.ListN.{length};
@@ -7,7 +8,7 @@ ghost use Rattle.layout.specs.Layouts.{blockOffset};
 ghost use Rattle.layout.specs.Right.{LayoutRight};
 ghost use Rattle.view.specs.Rules.{rules};
 ghost use Rattle.image.specs.Image.{viewOf};
-ghost use Rattle.rules.specs.Check.{checkAs, checkKinds, checkOf, checkStart};
+ghost use Rattle.rules.specs.Check.{knownKind, knownStart, checkAs, checkOf, checkStart};
 
 // Refusals 3 to 9 of a layout.
 fn disk_rules(head: &[u8], layout: layout::Layout) -> view::Ruled
@@ -60,21 +61,51 @@ fn check_as(head: &[u8], kind: layout::Kind, density: layout::Density) -> rules:
     }
 }
 
-// The check of an image of a known density: its kind first (refusal 2).
-fn check_kinds(head: &[u8], density: layout::Density) -> rules::Checked
+// The kind of an image of a known density: 2 if its slots' identities are of none.
+fn known_kind(head: &[u8], density: layout::Density) -> rules::Known
     requires { ⌜ 5120 ≤ length (now head) ⌝ }
-    ensures { λ r. ⌜ r ≡ checkKinds density (bytes (now (head .entry))) ⌝ }
+    ensures { λ r. ⌜ r ≡ knownKind density (bytes (now (head .entry))) ⌝ }
 {
     let s900 = layout::Kind::S900;
     if slots::has_identity(head, layout::layout_of(s900, density)) {
-        return check_as(head, s900, density);
+        return rules::Known::Disk {
+            kind: s900,
+            density,
+        };
     }
     let s1000 = layout::Kind::S1000;
     if slots::has_identity(head, layout::layout_of(s1000, density)) {
-        return check_as(head, s1000, density);
+        return rules::Known::Disk {
+            kind: s1000,
+            density,
+        };
     }
-    rules::Checked::Refused(laws::Refusal {
+    rules::Known::Unknown(laws::Refusal {
         number: 2,
+        place: 0,
+    })
+}
+
+// What is known of an image by its length, 1, and its slots' identities, 2. The first 5,120 bytes are at hand, or all.
+pub fn known(head: &[u8], length: usize) -> rules::Known
+    ensures { λ r. ⌜ r ≡ knownStart (now (head .entry)) length ⌝ }
+{
+    if head.len() < 5120 {
+        return rules::Known::Unknown(laws::Refusal {
+            number: 1,
+            place: 0,
+        });
+    }
+    let low = layout::Density::Low;
+    if length == layout::image_length(low) {
+        return known_kind(head, low);
+    }
+    let high = layout::Density::High;
+    if length == layout::image_length(high) {
+        return known_kind(head, high);
+    }
+    rules::Known::Unknown(laws::Refusal {
+        number: 1,
         place: 0,
     })
 }
@@ -83,24 +114,11 @@ fn check_kinds(head: &[u8], density: layout::Density) -> rules::Checked
 pub fn check_head(head: &[u8], length: usize) -> rules::Checked
     ensures { λ r. ⌜ r ≡ checkStart (now (head .entry)) length ⌝ }
 {
-    if head.len() < 5120 {
-        return rules::Checked::Refused(laws::Refusal {
-            number: 1,
-            place: 0,
-        });
+    let disk = known(head, length);
+    match disk {
+        rules::Known::Disk { kind, density } => check_as(head, kind, density),
+        rules::Known::Unknown(refusal) => rules::Checked::Refused(refusal),
     }
-    let low = layout::Density::Low;
-    if length == layout::image_length(low) {
-        return check_kinds(head, low);
-    }
-    let high = layout::Density::High;
-    if length == layout::image_length(high) {
-        return check_kinds(head, high);
-    }
-    rules::Checked::Refused(laws::Refusal {
-        number: 1,
-        place: 0,
-    })
 }
 
 // The check of an image.

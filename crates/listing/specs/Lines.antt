@@ -34,7 +34,7 @@ use Rattle.rules.specs.Accepted.{accepted-rules}
 use Rattle.rules.specs.Check.{checkOf, checkStart, answerOf, callOf}
 use Rattle.rules.specs.Demand.{check-call}
 use Rattle.rules.specs.Head.{read-head, head-agree, same-entry, start-check}
-use Rattle.disk.specs.Lemmas.Steps.{start-short, made-right, directory-held}
+use Rattle.disk.specs.Lemmas.Steps.{start-short, start-unknown, made-right, directory-held}
 use Rattle.calls.specs.Lemmas.Done.{list-done}
 use Rattle.calls.specs.Lemmas.Listing.{lent-area}
 use Rattle.calls.specs.Lemmas.Slots.{file-empty, file-used, file-length}
@@ -78,7 +78,7 @@ module _ (head : List ℕ) (size : ℕ) {c : Checked} (checked : c ≡ checkStar
     -- a shorter head is refused
     long-by : (t : Bool) → ltb (length head) 5120 ≡ t → 5120 ≤ length head
     long-by true e =
-        let short : Refused (refusalAt 1 0) ≡ checkStart head size = start-short head size (ltb-true (length head) 5120 e) in
+        let short : Refused (refusalAt 1 0) ≡ checkStart head size = start-unknown head size (start-short head size (ltb-true (length head) 5120 e)) refl in
         absurd (let z : _≡_ {A = ℕ} 0 1 = cc in omega arith)
     long-by false e = ltb-false (length head) 5120 e
 

@@ -40,7 +40,7 @@ use Rattle.record.specs.declared.Judged.{Judged}
 use Rattle.record.specs.declared.Judged.the-variants.{Grant}
 use Rattle.rules.specs.declared.Checked.{Checked}
 use Rattle.rules.specs.declared.Checked.the-variants.{Accepted, Refused}
-use Rattle.rules.specs.Check.{checkOf, refusalOf, callOf}
+use Rattle.rules.specs.Check.{checkOf, refusalOf, lent, came, unaccepted, callOf}
 use Rattle.rules.specs.Accepted.{accepted-rules}
 use Rattle.rules.specs.Head.{Read, read-head, head-agree, head-decides, same-map, same-entry}
 use Rattle.calls.specs.Answers.{foundOf, foundBy}
@@ -177,10 +177,11 @@ given-all (b ∷ bs) room n = go (ltb (length room) (length (b ∷ bs))) refl
 -- ---- the theorems: y has x's length and first 5,120 bytes
 
 module _ (x y : List ℕ) (same : SameHead x y) where
-  refused-alike : {r : Refusal} → checkOf x ≡ Refused r → (c : Call) → Alike x y c
-  refused-alike e c =
-      let a = call-refused x c refl e refl in
-      let b = call-refused y c refl (check-same x y same ∙ e) refl in
+  -- c being a call that a refused image answers with the check's refusal
+  refused-alike : {r : Refusal} → checkOf x ≡ Refused r → (c : Call) → ((z : List ℕ) (q : Refusal) → unaccepted q z c ≡ came (refusedBy q) (lent c) z) → Alike x y c
+  refused-alike e c plain =
+      let a = sym (plain x _) ∙ call-refused x c refl e refl in
+      let b = sym (plain y _) ∙ call-refused y c refl (check-same x y same ∙ e) refl in
       let t = check-same x y same in
       record {
         answer = ap (λ (o : Outcome (List ℕ)). o .answer) (sym b) ∙ ap (λ (w : Checked). refusedBy (refusalOf w)) t ∙ ap (λ (o : Outcome (List ℕ)). o .answer) a;
@@ -192,7 +193,7 @@ module _ (x y : List ℕ) (same : SameHead x y) where
   list-enough s = go (checkOf x) refl
     where
       go : (c : Checked) → checkOf x ≡ c → Alike x y (list s)
-      go (Refused r) e = refused-alike e (list s)
+      go (Refused r) e = refused-alike e (list s) (λ z q. refl)
       go (Accepted k d f n) e =
           let l = layoutOf k d in
           let a = list-done x refl e refl s in
@@ -207,7 +208,7 @@ module _ (x y : List ℕ) (same : SameHead x y) where
   find-enough name = go (checkOf x) refl
     where
       go : (c : Checked) → checkOf x ≡ c → Alike x y (find name)
-      go (Refused r) e = refused-alike e (find name)
+      go (Refused r) e = refused-alike e (find name) (λ z q. refl)
       go (Accepted k d f n) e =
           let a = find-done x refl e refl name refl refl in
           let b = find-done y refl (check-same x y same ∙ e) refl name refl refl in
@@ -235,7 +236,7 @@ module _ (x y : List ℕ) (same : SameHead x y) where
   page-enough s room fits held offset out = go (checkOf x) refl
     where
       go : (c : Checked) → checkOf x ≡ c → Alike x y (page s offset out)
-      go (Refused r) e = refused-alike e (page s offset out)
+      go (Refused r) e = refused-alike e (page s offset out) (λ z q. refl)
       go (Accepted k d f n) e =
           let l = layoutOf k d in
           let a = page-done x refl e refl s offset out in

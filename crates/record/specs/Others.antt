@@ -9,11 +9,11 @@ use borrow.Author.Tests.{ne-eqb}
 use Rattle.laws.specs.Lemmas.Scan.{at→}
 use Rattle.layout.specs.declared.Layout.{Layout}
 use Rattle.view.specs.Disk.{File}
-use Rattle.record.specs.Record.{Shape, Files, Call, check, list, find, page, put, remove, isNamed, named, Removes, isEmpty, replaced, slotOf, emptySlot, judgeName, judgePut, stepFiles}
+use Rattle.record.specs.Record.{Shape, Files, Call, check, list, find, page, put, remove, salvage, isNamed, named, Removes, isEmpty, replaced, slotOf, emptySlot, judgeName, judgePut, stepFiles}
 use Rattle.record.specs.declared.Judged.{Judged}
 use Rattle.record.specs.declared.Judged.the-variants.{Refuse, Grant}
 use Rattle.record.specs.Lemmas.Granted.{granted-name, granted-put}
-use Rattle.record.specs.Step.{Reading, reads-check, reads-list, reads-find, reads-page}
+use Rattle.record.specs.Step.{Reading, reads-check, reads-list, reads-find, reads-page, reads-salvage}
 use Rattle.record.specs.Lemmas.Step.{reading-keeps}
 
 module _ (shape : Shape) (files : Files) (t : ℕ) (f : File) (there : files t ≡ some f) where
@@ -48,3 +48,4 @@ module _ (shape : Shape) (files : Files) (t : ℕ) (f : File) (there : files t �
   others (page s offset out) n = reading (page s offset out) (reads-page s offset out)
   others (put name type content) n = put-keeps name type content (judgePut l files name type content) refl
   others (remove name) n = remove-keeps name (judgeName l files name) refl (λ e. n (name, refl, e))
+  others (salvage report) n = reading (salvage report) (reads-salvage report)

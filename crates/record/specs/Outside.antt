@@ -12,14 +12,14 @@ use Rattle.layout.specs.Right.{LayoutRight, DirectoryApart}
 use Rattle.map.specs.Map.{Data, Outside}
 use Rattle.image.specs.Image.{filesIn, DiskRules}
 use Rattle.image.specs.Outside.{Within, InEntry, InMap, InBlock, RemoveTouches, PutTouches, remove-outside, put-outside}
-use Rattle.record.specs.Record.{Call, check, list, find, page, put, remove, judgeName, judgePut}
+use Rattle.record.specs.Record.{Call, check, list, find, page, put, remove, salvage, judgeName, judgePut}
 use Rattle.record.specs.declared.Judged.{Judged}
 use Rattle.record.specs.declared.Judged.the-variants.{Refuse, Grant}
 use Rattle.record.specs.Lemmas.Granted.{granted-put}
 use Rattle.record.specs.Lemmas.Update.{remove-slot, remove-inside, put-slot, chosen-inside}
 use Rattle.record.specs.Step.{imageAfter}
 
--- A call that only reads or is refused touches no byte, and a granted put or remove those of the slot granted.
+-- On an accepted image a call that only reads, is refused or salvages touches no byte, and a granted put or remove those of the slot granted.
 abbrev pub Touches : Layout → List ℕ → Call → ℕ → Type 0
 Touches l img check i = ⊥
 Touches l img (list s) i = ⊥
@@ -27,6 +27,7 @@ Touches l img (find name) i = ⊥
 Touches l img (page s offset out) i = ⊥
 Touches l img (put name type content) i = (s : ℕ) × (judgePut l (filesIn l img) name type content ≡ Grant s) × PutTouches l img s content i
 Touches l img (remove name) i = (s : ℕ) × (judgeName l (filesIn l img) name ≡ Grant s) × RemoveTouches l img s i
+Touches l img (salvage report) i = ⊥
 
 -- Whatever the call, these are bytes of entries, map values of data blocks, and data blocks.
 abbrev pub Changeable : Layout → ℕ → Type 0
@@ -51,6 +52,7 @@ module _ (l : Layout) (right : LayoutRight l) where
         go : (j : Judged) → judgeName l (filesIn l img) name ≡ j → bytes (imageAfter l img (remove name)) i ≡ bytes img i
         go (Refuse r) e = rw e refl
         go (Grant s) e = rw e (remove-outside l img s i (λ p. out (s, e, p)))
+    step-outside (salvage report) out = refl
 
     module _ (rules : DiskRules l img) where
       put-where : (name : List ℕ) (type : ℕ) (content : List ℕ) (s : ℕ) → judgePut l (filesIn l img) name type content ≡ Grant s → PutTouches l img s content i → Changeable l i
@@ -69,6 +71,7 @@ module _ (l : Layout) (right : LayoutRight l) where
       touches-where (page s offset o) t = absurd t
       touches-where (put name type content) t = put-where name type content (t .0) (t .1) (t .2)
       touches-where (remove name) t = remove-where name (t .0) (t .1) (t .2)
+      touches-where (salvage report) t = absurd t
 
   -- ---- what no call changes
 

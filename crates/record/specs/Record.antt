@@ -13,6 +13,7 @@ use Rattle.laws.specs.declared.Lowest.{Lowest}
 use Rattle.laws.specs.declared.Lowest.the-variants.{At, Nowhere}
 use Rattle.laws.specs.Lists.{same}
 use Rattle.laws.specs.Splice.{part}
+use Rattle.laws.specs.Reader.{tab}
 use Rattle.layout.specs.declared.Kind.{Kind}
 use Rattle.layout.specs.declared.Kind.the-variants.{S900, S1000}
 use Rattle.layout.specs.declared.Density.{Density}
@@ -40,7 +41,7 @@ shapeOf k d = record { kind = k; density = d; layout = layoutOf k d }
 abbrev pub Files : Type 0
 Files = ℕ → Option File
 
--- The calls with their arguments; a page lends its output.
+-- The calls with their arguments; a page lends its output, a salvage its report.
 pub data Call : Type 0 where
   check : Call
   list : ℕ → Call
@@ -48,12 +49,13 @@ pub data Call : Type 0 where
   page : ℕ → ℕ → List ℕ → Call
   put : List ℕ → ℕ → List ℕ → Call
   remove : List ℕ → Call
+  salvage : List ℕ → Call
 
 -- A call's answer: its fields are read, and those that the call doesn't give are 0 or empty.
 pub record Answer : Type 0 where
   -- none where the call was done
   pub refusal : Option Refusal
-  -- find's and put's slot, how many bytes a page has, list's length, the check's number of files
+  -- find's and put's slot, how many bytes a page has, list's length, the check's number of files, how many map values a salvage changed
   pub value : ℕ
   -- the check's free blocks, kind and density
   pub free : ℕ
@@ -242,10 +244,21 @@ paging state none offset out = record { answer = refused 10 0; output = out; sta
 paging state (some f) offset out =
     pick (ltb (length (f .content)) offset) (record { answer = refused 17 0; output = out; state = state }) (pageOf state (f .content) offset out)
 
+-- A salvage's report of a disk that meets the rules: 1 for each file, 0 for each empty slot, and the rest of it as it was lent.
+unfoldable pub keptReport : Layout → Files → List ℕ → List ℕ
+unfolding tab
+keptReport l files report = tab (λ s. pick (isEmpty (files s)) 0 1) 0 (l .slots) ++ drop (l .slots) report
+
+-- salvage: 21; refused, the report stays as it was lent, else all files are kept and no map value changes (document 02, request four)
+abbrev pub salvaging : {S : Type 0} → S → Layout → Files → List ℕ → Outcome S
+salvaging state l files report =
+    pick (ltb (length report) (l .slots)) (record { answer = refused 21 0; output = report; state = state })
+    (record { answer = valued 0; output = keptReport l files report; state = state })
+
 -- ---- one call on the record
 
 unfoldable pub stepFiles : Shape → Files → Call → Outcome Files
-unfolding judgeName judgePut fileAt fileCount free replaced part
+unfolding judgeName judgePut fileAt fileCount free replaced part keptReport
 stepFiles shape files check =
     answered files (accepted (shape .kind) (shape .density) (fileCount (shape .layout) files) (free (shape .layout) files))
 stepFiles shape files (list s) = listing files (fileAt (shape .layout) files s)
@@ -254,3 +267,4 @@ stepFiles shape files (page s offset out) = paging files (fileAt (shape .layout)
 stepFiles shape files (put name type content) =
     putting files (λ s. replaced files s (some (keptFile (shape .layout) name type content))) (judgePut (shape .layout) files name type content)
 stepFiles shape files (remove name) = removing files (λ s. replaced files s none) (judgeName (shape .layout) files name)
+stepFiles shape files (salvage report) = salvaging files (shape .layout) files report

@@ -11,7 +11,7 @@ use Rattle.names.specs.Names.{capitals}
 use Rattle.names.specs.NameLaws.{capitals-twice, capitals-legal, capitals-area}
 use Rattle.view.specs.Disk.{File}
 use Rattle.image.specs.Image.{filesIn, newEntry, putImage}
-use Rattle.record.specs.Record.{Shape, Files, Call, check, list, find, page, put, remove, named, slotOf, judgeName, judgePut, stepFiles}
+use Rattle.record.specs.Record.{Shape, Files, Call, check, list, find, page, put, remove, salvage, named, slotOf, judgeName, judgePut, stepFiles}
 use Rattle.record.specs.declared.Judged.{Judged}
 use Rattle.record.specs.declared.Judged.the-variants.{Refuse, Grant}
 use Rattle.record.specs.Step.{after, imageAfter, stepImage}
@@ -24,6 +24,7 @@ inCapitals l (find name) = find (capitals l name)
 inCapitals l (page s offset out) = page s offset out
 inCapitals l (put name type content) = put (capitals l name) type content
 inCapitals l (remove name) = remove (capitals l name)
+inCapitals l (salvage report) = salvage report
 
 module _ (l : Layout) (files : Files) (name : List ℕ) where
   named-spelled : (w : Option File) → named l (capitals l name) w ≡ named l name w
@@ -51,6 +52,7 @@ files-spelled shape files (find name) = rw (name-spelled (shape .layout) files n
 files-spelled shape files (page s offset out) = refl
 files-spelled shape files (put name type content) = rw (put-spelled (shape .layout) files name type content, capitals-twice (shape .layout) name) refl
 files-spelled shape files (remove name) = rw (name-spelled (shape .layout) files name) refl
+files-spelled shape files (salvage report) = refl
 
 -- the image
 put-image : (l : Layout) (img name : List ℕ) (type : ℕ) (content : List ℕ) (j : Judged)
@@ -68,6 +70,7 @@ after-spelled l img (page s offset out) = refl
 after-spelled l img (put name type content) =
     rw (put-spelled l (filesIn l img) name type content) (put-image l img name type content (judgePut l (filesIn l img) name type content))
 after-spelled l img (remove name) = rw (name-spelled l (filesIn l img) name) refl
+after-spelled l img (salvage report) = refl
 
 pub image-spelled : (shape : Shape) (img : List ℕ) (c : Call) → stepImage shape img (inCapitals (shape .layout) c) ≡ stepImage shape img c
 unfolding stepImage

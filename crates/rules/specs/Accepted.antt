@@ -32,8 +32,10 @@ use Rattle.record.specs.Record.{isEmpty, fileCount}
 use Rattle.record.specs.Lemmas.Update.{empty-used}
 use Rattle.rules.specs.declared.Checked.{Checked}
 use Rattle.rules.specs.declared.Checked.the-variants.{Accepted, Refused}
-use Rattle.rules.specs.Check.{densityOf, hasIdentity, kindOf, usedCount, checkAs, checkOf}
-use Rattle.rules.specs.Lemmas.Steps.{head-none, head-some, kinds-none, kinds-some, as-passed, as-failed}
+use Rattle.rules.specs.declared.Known.{Known}
+use Rattle.rules.specs.declared.Known.the-variants.{Disk, Unknown}
+use Rattle.rules.specs.Check.{densityOf, hasIdentity, kindOf, knownHead, knownOf, usedCount, checkAs, checkOf}
+use Rattle.rules.specs.Lemmas.Steps.{known-length, known-kind, known-disk, head-unknown, head-known, as-passed, as-failed}
 
 -- The check's answer for an image that meets the rules.
 abbrev pub acceptedAs : Kind → Density → List ℕ → Checked
@@ -41,7 +43,7 @@ acceptedAs k d img = Accepted k d (fileCount (layoutOf k d) (filesIn (layoutOf k
 
 -- ---- the length
 
-length-of : (k : Kind) (d : Density) → imageLength (layoutOf k d) ≡ lengthOf d
+pub length-of : (k : Kind) (d : Density) → imageLength (layoutOf k d) ≡ lengthOf d
 length-of S900 Low = refl
 length-of S900 High = refl
 length-of S1000 Low = refl
@@ -105,6 +107,32 @@ unfolding kindOf
 is-kind d b S900 h = rw (identified-kind S900 d b h) refl
 is-kind d b S1000 h = rw (not-900 d b h, identified-kind S1000 d b h) refl
 
+-- ---- what is known of an image
+
+module _ (n : ℕ) (b : ℕ → ℕ) (k : Kind) (d : Density) where
+  -- its length is the density's, its identities are the kind's
+  pub known-is : knownHead n b ≡ Disk k d → (n ≡ lengthOf d) × Identified k d b
+  known-is e = go (densityOf n) refl
+    where
+      unknown : {A : Type 0} {r : Refusal} → knownHead n b ≡ Unknown r → A
+      unknown p = let z : Unknown _ ≡ Disk k d = sym p ∙ e in absurd (let o : _≡_ {A = ℕ} 0 1 = cc in omega arith)
+
+      by-kind : (c : Density) → densityOf n ≡ some c → (y : Option Kind) → kindOf c b ≡ y → (n ≡ lengthOf d) × Identified k d b
+      by-kind c p none q = unknown (known-kind b n c p q)
+      by-kind c p (some j) q =
+          let z : Disk j c ≡ Disk k d = sym (known-disk b n c p j q) ∙ e in
+          let u : j ≡ k = cc in
+          let w : c ≡ d = cc in
+          let r : (n ≡ lengthOf c) × Identified j c b = (density-is n c p, kind-is c b j q) in
+          rw (u, w) at r
+
+      go : (x : Option Density) → densityOf n ≡ x → (n ≡ lengthOf d) × Identified k d b
+      go none p = unknown (known-length b n p)
+      go (some c) p = by-kind c p (kindOf c b) refl
+
+  pub is-known : n ≡ lengthOf d → Identified k d b → knownHead n b ≡ Disk k d
+  is-known size kind = known-disk b n d (is-density n d size) k (is-kind d b k kind)
+
 -- ---- the counts
 
 -- the used slots are the record's files
@@ -121,10 +149,13 @@ used-files l img =
 
 -- ---- what the check accepts
 
+-- an image that meets the rules of a kind and a density is known to be of them
+pub rules-known : (k : Kind) (d : Density) (img : List ℕ) → DiskRules (layoutOf k d) img → knownOf img ≡ Disk k d
+rules-known k d img r = is-known (length img) (bytes img) k d (r .size ∙ length-of k d) (r .kind)
+
 pub rules-accepted : (k : Kind) (d : Density) (img : List ℕ) → DiskRules (layoutOf k d) img → checkOf img ≡ acceptedAs k d img
 rules-accepted k d img r =
-    head-some (bytes img) (length img) (is-density (length img) d (r .size ∙ length-of k d))
-    ∙ kinds-some (bytes img) d (is-kind d (bytes img) k (r .kind))
+    head-known (bytes img) (length img) (rules-known k d img r)
     ∙ as-passed (bytes img) d k (valid-passed (layoutOf k d) (viewOf (layoutOf k d) (bytes img)) (layout-right k d) (r .valid))
     ∙ rw (used-files (layoutOf k d) img) refl
 
@@ -143,17 +174,13 @@ rules-by k d img size kind Pass p j c f n e =
 rules-by k d img size kind (Fail r) p j c f n e = refused-accepted (sym (as-failed (bytes img) d k p) ∙ e)
 
 pub accepted-rules : (k : Kind) (d : Density) (f n : ℕ) (img : List ℕ) → checkOf img ≡ Accepted k d f n → DiskRules (layoutOf k d) img
-accepted-rules k d f n img e = go (densityOf (length img)) refl
+accepted-rules k d f n img e = go (knownOf img) refl
   where
-    by-kind : (c : Density) → densityOf (length img) ≡ some c → (y : Option Kind) → kindOf c (bytes img) ≡ y → DiskRules (layoutOf k d) img
-    by-kind c p none q = refused-accepted (sym (head-some (bytes img) (length img) p ∙ kinds-none (bytes img) c q) ∙ e)
-    by-kind c p (some j) q =
-        rules-by j c img (density-is (length img) c p) (kind-is c (bytes img) j q) (rules (layoutOf j c) (viewOf (layoutOf j c) (bytes img))) refl k d f n
-        (sym (head-some (bytes img) (length img) p ∙ kinds-some (bytes img) c q) ∙ e)
-
-    go : (x : Option Density) → densityOf (length img) ≡ x → DiskRules (layoutOf k d) img
-    go none p = refused-accepted (sym (head-none (bytes img) (length img) p) ∙ e)
-    go (some c) p = by-kind c p (kindOf c (bytes img)) refl
+    go : (x : Known) → knownOf img ≡ x → DiskRules (layoutOf k d) img
+    go (Unknown r) p = refused-accepted (sym (head-unknown (bytes img) (length img) p) ∙ e)
+    go (Disk j c) p =
+        let w = known-is (length img) (bytes img) j c p in
+        rules-by j c img (w .0) (w .1) (rules (layoutOf j c) (viewOf (layoutOf j c) (bytes img))) refl k d f n (sym (head-known (bytes img) (length img) p) ∙ e)
 
 -- demand 2: accepted exactly when the disk rules hold
 pub accepted : (k : Kind) (d : Density) (img : List ℕ) → (checkOf img ≡ acceptedAs k d img) ↔ DiskRules (layoutOf k d) img

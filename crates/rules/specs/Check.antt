@@ -1,5 +1,5 @@
 -- The check over a length and a reader of bytes: refusals 1 to 9 in document 01's order ("The numbers given back"), and the meaning of
--- every public call on any bytes: the check first. Assumes nothing.
+-- every public call on any bytes: the check first, but for salvage. Assumes nothing.
 use mathlib.Core.Path.{_≡_}
 use mathlib.Core.Bool.{Bool}
 use mathlib.Core.List.{List, []}
@@ -24,15 +24,18 @@ use Rattle.laws.specs.declared.Refusal.{Refusal}
 use Rattle.laws.specs.Refusals.{refusalAt}
 use Rattle.view.specs.Rules.{rules}
 use Rattle.image.specs.Image.{entryAt, identityAt, viewOf}
-use Rattle.record.specs.Record.{shapeOf, Call, check, list, find, page, put, remove, Answer, accepted, refusedBy, Outcome}
+use Rattle.salvage.specs.Salvage.{salvageImage, mapChanges, reportAfter}
+use Rattle.record.specs.Record.{shapeOf, Call, check, list, find, page, put, remove, salvage, Answer, accepted, refused, refusedBy, valued, Outcome}
 use Rattle.record.specs.Step.{stepImage}
 use Rattle.rules.specs.declared.Checked.{Checked}
 use Rattle.rules.specs.declared.Checked.the-variants.{Accepted, Refused}
+use Rattle.rules.specs.declared.Known.{Known}
+use Rattle.rules.specs.declared.Known.the-variants.{Disk, Unknown}
 
 -- what comes next of a value, or the refusal where there is none
-abbrev pub orRefused : {A : Type 0} → Option A → ℕ → (A → Checked) → Checked
-orRefused none number next = Refused (refusalAt number 0)
-orRefused (some x) number next = next x
+abbrev pub orUnknown : {A : Type 0} → Option A → ℕ → (A → Known) → Known
+orUnknown none number next = Unknown (refusalAt number 0)
+orUnknown (some x) number next = next x
 
 -- 1: the image's length is one of the two.
 unfoldable pub densityOf : ℕ → Option Density
@@ -46,6 +49,18 @@ hasIdentity l b = all (λ s. eqb (identityAt l b s) (l .identity)) 0 (l .slots)
 unfoldable pub kindOf : Density → (ℕ → ℕ) → Option Kind
 unfolding hasIdentity
 kindOf d b = pick (hasIdentity (layoutOf S900 d) b) (some S900) (pick (hasIdentity (layoutOf S1000 d) b) (some S1000) none)
+
+unfoldable pub knownKind : Density → (ℕ → ℕ) → Known
+unfolding kindOf
+knownKind d b = orUnknown (kindOf d b) 2 (λ k. Disk k d)
+
+-- 1, then 2: what is known of an image by its length and its slots' identities. The check and the salvage run both begin so.
+unfoldable pub knownHead : ℕ → (ℕ → ℕ) → Known
+unfolding densityOf knownKind
+knownHead length b = orUnknown (densityOf length) 1 (λ d. knownKind d b)
+
+abbrev pub knownOf : List ℕ → Known
+knownOf img = knownHead (length img) (bytes img)
 
 -- the number of used slots
 unfoldable pub usedCount : Layout → View → ℕ
@@ -63,25 +78,28 @@ checkAs k d b =
     let l = layoutOf k d in
     orFault (rules l (viewOf l b)) (Accepted k d (usedCount l (viewOf l b)) (freeCount l (mapAt b)))
 
--- 2, then those of the kind.
-unfoldable pub checkKinds : Density → (ℕ → ℕ) → Checked
-unfolding kindOf checkAs
-checkKinds d b = orRefused (kindOf d b) 2 (λ k. checkAs k d b)
+-- 1 and 2, then those of the kind and density.
+abbrev pub checkKnown : Known → (ℕ → ℕ) → Checked
+checkKnown (Unknown r) b = Refused r
+checkKnown (Disk k d) b = checkAs k d b
 
--- 1, then those of the density.
 unfoldable pub checkHead : ℕ → (ℕ → ℕ) → Checked
-unfolding densityOf checkKinds
-checkHead length b = orRefused (densityOf length) 1 (λ d. checkKinds d b)
+unfolding knownHead checkAs
+checkHead length b = checkKnown (knownHead length b) b
 
 -- The check of an image.
 abbrev pub checkOf : List ℕ → Checked
 checkOf img = checkHead (length img) (bytes img)
 
--- The check where only an image's head is at hand: its first 5,120 bytes suffice (`start-check`). A head that is shorter than it could be is
+-- The same where only an image's head is at hand: its first 5,120 bytes suffice (`start-check`). A head that is shorter than it could be is
 -- refused as a wrong length is.
+unfoldable pub knownStart : List ℕ → ℕ → Known
+unfolding knownHead
+knownStart head size = pick (ltb (length head) (min size 5120)) (Unknown (refusalAt 1 0)) (knownHead size (bytes head))
+
 unfoldable pub checkStart : List ℕ → ℕ → Checked
-unfolding checkHead
-checkStart head size = pick (ltb (length head) (min size 5120)) (Refused (refusalAt 1 0)) (checkHead size (bytes head))
+unfolding knownStart checkAs
+checkStart head size = checkKnown (knownStart head size) (bytes head)
 
 -- The check's number, place and values.
 abbrev pub answerOf : Checked → Answer
@@ -102,19 +120,45 @@ lent (find name) = []
 lent (page s offset out) = out
 lent (put name type content) = []
 lent (remove name) = []
+lent (salvage report) = report
 
 -- What a call comes to: its answer, the lent output afterwards, the image afterwards.
 abbrev pub came : Answer → List ℕ → List ℕ → Outcome (List ℕ)
 came answer output img = record { answer = answer; output = output; state = img }
 
+-- The salvage run on an image of a known layout: 21, or the count of map values that are others, the report, and the image as it leaves it.
+unfoldable pub salvageAs : Layout → List ℕ → List ℕ → Outcome (List ℕ)
+unfolding salvageImage mapChanges reportAfter
+salvageAs l img report =
+    pick (ltb (length report) (l .slots)) (came (refused 21 0) report img)
+    (came (valued (mapChanges l img (salvageImage l img))) (reportAfter l img report) (salvageImage l img))
+
+abbrev pub salvageKnown : Known → List ℕ → List ℕ → Outcome (List ℕ)
+salvageKnown (Unknown r) img report = came (refusedBy r) report img
+salvageKnown (Disk k d) img report = salvageAs (layoutOf k d) img report
+
+-- The salvage run on any bytes (document 02, request four): 1, 2, then 21, else it is done.
+unfoldable pub salvageOf : List ℕ → List ℕ → Outcome (List ℕ)
+unfolding knownHead salvageAs
+salvageOf img report = salvageKnown (knownOf img) img report
+
+-- A call on an image that the check refuses: its refusal, and image and output stay; but salvage mends the image.
+abbrev pub unaccepted : Refusal → List ℕ → Call → Outcome (List ℕ)
+unaccepted r img check = came (refusedBy r) [] img
+unaccepted r img (list s) = came (refusedBy r) [] img
+unaccepted r img (find name) = came (refusedBy r) [] img
+unaccepted r img (page s offset out) = came (refusedBy r) out img
+unaccepted r img (put name type content) = came (refusedBy r) [] img
+unaccepted r img (remove name) = came (refusedBy r) [] img
+unaccepted r img (salvage report) = salvageOf img report
+
 abbrev pub callBy : Checked → List ℕ → Call → Outcome (List ℕ)
-callBy (Refused r) img c = came (refusedBy r) (lent c) img
+callBy (Refused r) img c = unaccepted r img c
 callBy (Accepted k d files free) img c = stepImage (shapeOf k d) img c
 
--- A call on any bytes: a refused image answers the check's refusal and keeps image and output; on an accepted one the answer and the
--- output are the record's.
+-- A call on any bytes: on an accepted image the answer and the output are the record's. What salvage comes to is `salvageOf` there too (`salvage-call`).
 unfoldable pub callOf : List ℕ → Call → Outcome (List ℕ)
-unfolding checkHead stepImage
+unfolding checkHead stepImage salvageOf
 callOf img c = callBy (checkOf img) img c
 
 -- A call was made: answer, output and image afterwards are those of `callOf`.

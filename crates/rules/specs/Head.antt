@@ -27,9 +27,11 @@ use Rattle.view.specs.Disk.{used}
 use Rattle.view.specs.Lemmas.Head.{same-rules}
 use Rattle.image.specs.Image.{identityAt, viewOf}
 use Rattle.image.specs.Lemmas.Entries.{entry-cong}
-use Rattle.rules.specs.Accepted.{density-is}
-use Rattle.rules.specs.Check.{densityOf, hasIdentity, kindOf, usedCount, checkAs, checkKinds, checkHead, checkOf, checkStart}
-use Rattle.rules.specs.Lemmas.Steps.{head-none, head-some, kinds-none, kinds-some}
+use Rattle.rules.specs.declared.Known.{Known}
+use Rattle.rules.specs.declared.Known.the-variants.{Disk, Unknown}
+use Rattle.rules.specs.Accepted.{density-is, known-is}
+use Rattle.rules.specs.Check.{densityOf, hasIdentity, kindOf, knownHead, knownOf, knownStart, usedCount, checkAs, checkHead, checkOf, checkStart}
+use Rattle.rules.specs.Lemmas.Steps.{known-length, known-kind, known-disk, head-unknown, head-known}
 
 -- The check reads a byte of an image of this layout: it lies in the directory or in the map.
 abbrev pub Read : Layout → ℕ → Type 0
@@ -76,16 +78,24 @@ module _ (b c : ℕ → ℕ) (d : Density) (agree : (k : Kind) (i : ℕ) → Rea
   same-kind =
       ap₂ (λ (t u : Bool). pick t (some S900) (pick u (some S1000) none)) (same-has b c (layoutOf S900 d) (layout-right S900 d) (agree S900)) (same-has b c (layoutOf S1000 d) (layout-right S1000 d) (agree S1000))
 
-  kinds-by : (k : Option Kind) → kindOf d b ≡ k → checkKinds d c ≡ checkKinds d b
-  kinds-by none e = kinds-none c d (same-kind ∙ e) ∙ sym (kinds-none b d e)
-  kinds-by (some k) e = kinds-some c d (same-kind ∙ e) ∙ same-as k ∙ sym (kinds-some b d e)
+module _ (b c : ℕ → ℕ) (n : ℕ) (agree : (k : Kind) (d : Density) (i : ℕ) → n ≡ lengthOf d → Read (layoutOf k d) i → c i ≡ b i) where
+  same-known : knownHead n c ≡ knownHead n b
+  same-known = go (densityOf n) refl
+    where
+      by-kind : (d : Density) → densityOf n ≡ some d → (k : Option Kind) → kindOf d b ≡ k → knownHead n c ≡ knownHead n b
+      by-kind d p none q = known-kind c n d p (same-kind b c d (λ k i. agree k d i (density-is n d p)) ∙ q) ∙ sym (known-kind b n d p q)
+      by-kind d p (some k) q = known-disk c n d p k (same-kind b c d (λ k i. agree k d i (density-is n d p)) ∙ q) ∙ sym (known-disk b n d p k q)
 
-same-check : (b c : ℕ → ℕ) (n : ℕ) → ((k : Kind) (d : Density) (i : ℕ) → n ≡ lengthOf d → Read (layoutOf k d) i → c i ≡ b i) → checkHead n c ≡ checkHead n b
-same-check b c n agree = go (densityOf n) refl
-  where
-    go : (d : Option Density) → densityOf n ≡ d → checkHead n c ≡ checkHead n b
-    go none e = head-none c n e ∙ sym (head-none b n e)
-    go (some d) e = head-some c n e ∙ kinds-by b c d (λ k i. agree k d i (density-is n d e)) (kindOf d b) refl ∙ sym (head-some b n e)
+      go : (d : Option Density) → densityOf n ≡ d → knownHead n c ≡ knownHead n b
+      go none p = known-length c n p ∙ sym (known-length b n p)
+      go (some d) p = by-kind d p (kindOf d b) refl
+
+  same-check : checkHead n c ≡ checkHead n b
+  same-check = go (knownHead n b) refl
+    where
+      go : (x : Known) → knownHead n b ≡ x → checkHead n c ≡ checkHead n b
+      go (Unknown r) e = head-unknown c n (same-known ∙ e) ∙ sym (head-unknown b n e)
+      go (Disk k d) e = head-known c n (same-known ∙ e) ∙ same-as b c d (λ j i. agree j d i (known-is n b k d e .0)) k ∙ sym (head-known b n e)
 
 -- The check reads the length, the directory and the map, and nothing else: images that agree in these get the same answer.
 pub check-reads : (x y : List ℕ) → length y ≡ length x
@@ -111,9 +121,14 @@ head-agree x y e i h = sym (getD-take 5120 y i 0 h) ∙ ap (λ (z : List ℕ). b
 
 -- A head that has the image's first 5,120 bytes, or all of them, suffices.
 pub start-check : (head img : List ℕ) → min (length img) 5120 ≤ length head → take 5120 head ≡ take 5120 img → checkStart head (length img) ≡ checkOf img
-unfolding checkStart
+unfolding checkStart knownStart checkHead
 start-check head img n e =
     rw (le-ltb (length head) (min (length img) 5120) n) (same-check (bytes img) (bytes head) (length img) (λ k d i h r. head-agree img head e i (read-head k d i r)))
+
+-- All of an image is a head that suffices.
+pub whole-known : (img : List ℕ) → knownStart img (length img) ≡ knownOf img
+unfolding knownStart
+whole-known img = rw (le-ltb (length img) (min (length img) 5120) (omega arith)) refl
 
 -- The listing program's head: the first 5,120 bytes.
 pub head-check : (img : List ℕ) → checkStart (take 5120 img) (length img) ≡ checkOf img

@@ -2,6 +2,7 @@ pub mod Check
 pub mod Accepted
 pub mod Exactly
 pub mod Head
+pub mod Salvage
 pub mod Demand
 pub mod Refused
 pub mod Outside

@@ -29,25 +29,29 @@ use Rattle.laws.specs.Refusals.{refusalAt}
 use Rattle.view.specs.Disk.{View, File, takes}
 use Rattle.view.specs.Broken.{Rule, system, legal, single, linked, apart, owner, Breaks}
 use Rattle.image.specs.Image.{viewOf, filesIn, DiskRules}
-use Rattle.record.specs.Record.{shapeOf, Files, Call, check, list, find, page, put, remove, Answer, refusedBy, refused, gives, refuseIf, refuseAt, orRefuse, replaced, slotOf, emptySlot, isEmpty, named, keptFile, fileCount, free, judgeName, judgePut, fileAt, listing, finding, putting, removing, paging, stepFiles}
+use Rattle.salvage.specs.Salvage.{salvageImage, mapChanges}
+use Rattle.salvage.specs.Theorems.{changes-few}
+use Rattle.record.specs.Record.{shapeOf, Files, Call, check, list, find, page, put, remove, salvage, Answer, refusedBy, refused, gives, refuseIf, refuseAt, orRefuse, replaced, slotOf, emptySlot, isEmpty, named, keptFile, fileCount, free, judgeName, judgePut, fileAt, listing, finding, putting, removing, paging, salvaging, stepFiles}
 use Rattle.record.specs.declared.Judged.{Judged}
 use Rattle.record.specs.declared.Judged.the-variants.{Refuse, Grant}
 use Rattle.record.specs.Lemmas.Update.{area-split}
 use Rattle.record.specs.Step.{stepImage}
 use Rattle.rules.specs.declared.Checked.{Checked}
 use Rattle.rules.specs.declared.Checked.the-variants.{Accepted, Refused}
-use Rattle.rules.specs.Check.{checkOf, callBy, callOf}
-use Rattle.rules.specs.Exactly.{Owed, no-density, no-kind, by-rule, refused-exactly}
+use Rattle.rules.specs.declared.Known.{Known}
+use Rattle.rules.specs.declared.Known.the-variants.{Disk, Unknown}
+use Rattle.rules.specs.Check.{knownOf, checkOf, salvageAs, salvageOf, unaccepted, callBy, callOf}
+use Rattle.rules.specs.Exactly.{Owed, no-density, no-kind, by-rule, unknown-owed, refused-exactly}
 use Rattle.rules.specs.Accepted.{accepted-rules}
 
 -- Three bytes hold the number.
 abbrev pub Small : ℕ → Type 0
 Small n = n < 16777216
 
--- A refusal of document 01's table for the calls on a disk: none has number 0.
+-- A refusal of document 01's table: none has number 0.
 pub record Numbered (r : Refusal) : Type 0 where
   pub some : 1 ≤ r .number
-  pub most : r .number ≤ 17
+  pub most : r .number ≤ 21
   pub place : Small (r .place)
 
 abbrev pub NumberedIn : Option Refusal → Type 0
@@ -93,7 +97,7 @@ SmallJudged (Grant slot) = Small slot
 
 -- a number of the table
 abbrev Listed : ℕ → Type 0
-Listed n = (1 ≤ n) × (n ≤ 17)
+Listed n = (1 ≤ n) × (n ≤ 21)
 
 if-small : (t : Bool) (n : ℕ) (next : Judged) → Listed n → SmallJudged next → SmallJudged (refuseIf t n next)
 if-small true n next h r = record { some = h .0; most = h .1; place = omega arith }
@@ -162,6 +166,9 @@ gives-small n name type end h = record { refusal = tt; value = h; free = omega a
 no-file : AllSmall (refused 10 0)
 no-file = refused-small (refusalAt 10 0) (record { some = omega arith; most = omega arith; place = omega arith })
 
+no-room : AllSmall (refused 21 0)
+no-room = refused-small (refusalAt 21 0) (record { some = omega arith; most = omega arith; place = omega arith })
+
 module _ (files : Files) where
   listing-small : (w : Option File) → ((f : File) → w ≡ some f → Small (length (f .content))) → AllSmall (listing files w .answer)
   listing-small none h = no-file
@@ -187,6 +194,13 @@ module _ (files : Files) where
       go true e = rw e (refused-small (refusalAt 17 0) (record { some = omega arith; most = omega arith; place = omega arith }))
       go false e = rw e (let k = h f refl in gives-small _ [] 0 _ (omega arith))
 
+  salvaging-small : (l : Layout) (report : List ℕ) → AllSmall (salvaging files l files report .answer)
+  salvaging-small l report = go (ltb (length report) (l .slots)) refl
+    where
+      go : (t : Bool) → ltb (length report) (l .slots) ≡ t → AllSmall (salvaging files l files report .answer)
+      go true e = rw e no-room
+      go false e = rw e (gives-small 0 [] 0 false (omega arith))
+
 step-small : (k : Kind) (d : Density) (img : List ℕ) → DiskRules (layoutOf k d) img → (c : Call) → AllSmall (stepFiles (shapeOf k d) (filesIn (layoutOf k d) img) c .answer)
 unfolding stepFiles fileCount free
 step-small k d img rules check =
@@ -211,6 +225,31 @@ step-small k d img rules (remove name) =
     let l = layoutOf k d in
     let files = filesIn l img in
     removing-small files (λ s. replaced files s none) (judgeName l files name) (name-small l (layout-right k d) files name)
+step-small k d img rules (salvage report) = let l = layoutOf k d in salvaging-small (filesIn l img) l report
+
+-- the salvage run: no more map values than blocks
+run-small : (img report : List ℕ) → AllSmall (salvageOf img report .answer)
+unfolding salvageOf salvageAs
+run-small img report = go (knownOf img) refl
+  where
+    by-room : (k : Kind) (d : Density) → (t : Bool) → ltb (length report) (layoutOf k d .slots) ≡ t → AllSmall (salvageAs (layoutOf k d) img report .answer)
+    by-room k d true h = rw h no-room
+    by-room k d false h =
+        let l = layoutOf k d in
+        rw h (gives-small (mapChanges l img (salvageImage l img)) [] 0 false (omega (arith, changes-few l img (salvageImage l img), layout-right k d .blocks-most)))
+
+    go : (x : Known) → knownOf img ≡ x → AllSmall (salvageOf img report .answer)
+    go (Unknown r) e = rw e (refused-small r (check-small img r (unknown-owed img r e)))
+    go (Disk k d) e = rw e (by-room k d (ltb (length report) (layoutOf k d .slots)) refl)
+
+unaccepted-small : (r : Refusal) (img : List ℕ) (c : Call) → Numbered r → AllSmall (unaccepted r img c .answer)
+unaccepted-small r img check h = refused-small r h
+unaccepted-small r img (list s) h = refused-small r h
+unaccepted-small r img (find name) h = refused-small r h
+unaccepted-small r img (page s offset out) h = refused-small r h
+unaccepted-small r img (put name type content) h = refused-small r h
+unaccepted-small r img (remove name) h = refused-small r h
+unaccepted-small r img (salvage report) h = run-small img report
 
 -- No call answers a number that takes more than three bytes, whatever the image, nor a refusal that the table doesn't have.
 pub call-small : (img : List ℕ) (c : Call) → AllSmall (callOf img c .answer)
@@ -219,7 +258,7 @@ call-small img c = go (checkOf img) refl
   where
     go : (w : Checked) → checkOf img ≡ w → AllSmall (callBy w img c .answer)
     go (Accepted k d f n) e = step-small k d img (accepted-rules k d f n img e) c
-    go (Refused r) e = refused-small r (check-small img r (refused-exactly img r .0 e))
+    go (Refused r) e = unaccepted-small r img c (check-small img r (refused-exactly img r .0 e))
 
 -- No refusal has number 0.
 pub refusal-numbered : (img : List ℕ) (c : Call) (r : Refusal) → callOf img c .answer .refusal ≡ some r → Numbered r

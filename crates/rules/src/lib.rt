@@ -1,4 +1,4 @@
-// The check's answer; what it means is in specs/.
+// The check's answer, and what is known of an image before it; what they mean is in specs/.
 ghost use mathlib.Core.Path.{_≡_};
 ghost use Rattle.rules.specs.Check.{refusalOf};
 
@@ -11,6 +11,15 @@ pub enum Checked {
         free: usize,
     },
     Refused(laws::Refusal),
+}
+
+// The kind and density that an image's length and its slots' identities say; or a refusal, 1 or 2.
+pub enum Known {
+    Disk {
+        kind: layout::Kind,
+        density: layout::Density,
+    },
+    Unknown(laws::Refusal),
 }
 
 // The check's refusal, 0 at 0 for none.

@@ -10,6 +10,7 @@ use Rattle.record.specs.Record.{Answer, numberIn, placeOr, kindNumber, densityN
 use Rattle.rules.specs.declared.Checked.{Checked}
 use Rattle.rules.specs.declared.Checked.the-variants.{Accepted}
 use Rattle.rules.specs.Check.{answerOf}
+use Rattle.calls.specs.Answers.{countedOf}
 use Rattle.skilletjay.specs.declared.CChecked.{CChecked}
 use Rattle.skilletjay.specs.declared.CListed.{CListed}
 use Rattle.skilletjay.specs.declared.CFound.{CFound}
@@ -46,7 +47,16 @@ pagedResult a = record { refusal = numberIn (a .refusal); place = placeOr (a .re
 abbrev pub doneResult : Answer → CDone
 doneResult a = record { refusal = numberIn (a .refusal); place = placeOr (a .refusal) 0 }
 
+-- salvage
+abbrev pub changedResult : Answer → CCounted
+changedResult a = record { refusal = numberIn (a .refusal); place = placeOr (a .refusal) 0; count = a .value }
+
 -- a count: a file's blocks, calls on sample and program files
 abbrev pub countedResult : Counted → CCounted
 countedResult (Done count) = record { refusal = 0; place = 0; count = count }
 countedResult (Refused r) = record { refusal = r .number; place = r .place; count = 0 }
+
+-- the two agree
+pub changed-counted : (c : Counted) → countedResult c ≡ changedResult (countedOf c)
+changed-counted (Done count) = refl
+changed-counted (Refused r) = refl

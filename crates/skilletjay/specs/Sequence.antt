@@ -22,7 +22,7 @@ use Rattle.layout.specs.Right.{layout-right}
 use Rattle.names.specs.NameLaws.{length-name}
 use Rattle.view.specs.Disk.{File, used}
 use Rattle.image.specs.Image.{entryAt, viewOf, filesIn}
-use Rattle.record.specs.Record.{shapeOf, Files, Call, check, list, find, page, put, remove, Answer, Outcome, fileAt, judgeName, judgePut, listing, finding, paging, putting, removing, stepFiles}
+use Rattle.record.specs.Record.{shapeOf, Files, Call, check, list, find, page, put, remove, salvage, Answer, Outcome, fileAt, judgeName, judgePut, listing, finding, paging, putting, removing, salvaging, stepFiles}
 use Rattle.record.specs.Step.{imageAfter, stepImage}
 use Rattle.record.specs.Lemmas.Step.{list-output, find-output, put-output, remove-output}
 use Rattle.record.specs.declared.Judged.{Judged}
@@ -34,8 +34,8 @@ use Rattle.rules.specs.Refused.{unchanged}
 use Rattle.rules.specs.Small.{Numbered, refusal-numbered}
 use Rattle.rules.specs.Demand.{call-is, Ran, Behaves, demand-3}
 use Rattle.calls.specs.Lemmas.Slots.{slotFile, file-above, file-empty, file-used}
-use Rattle.skilletjay.specs.Results.{checkedResult, listedResult, foundResult, pagedResult, doneResult}
-use Rattle.skilletjay.specs.Told.{CTurn, checked, listed, found, paged, placed, removed, toldOf, refusedTurn, refusalIn, checkedIn, listedIn, foundIn, pagedIn, doneIn, turnIn, CRan, turnsIn}
+use Rattle.skilletjay.specs.Results.{checkedResult, listedResult, foundResult, pagedResult, doneResult, changedResult}
+use Rattle.skilletjay.specs.Told.{CTurn, checked, listed, found, paged, placed, removed, salvaged, toldOf, refusedTurn, refusalIn, checkedIn, listedIn, foundIn, pagedIn, doneIn, changedIn, turnIn, CRan, turnsIn}
 
 -- ---- each answer is what the result tells of it
 
@@ -64,6 +64,13 @@ module _ (files : Files) where
   paged-back (some f) offset out = go (ltb (length (f .content)) offset) refl
     where
       go : (t : Bool) → ltb (length (f .content)) offset ≡ t → pagedIn (pagedResult (paging files (some f) offset out .answer)) ≡ paging files (some f) offset out .answer
+      go true e = rw e refl
+      go false e = rw e refl
+
+  changed-back : (l : Layout) (report : List ℕ) → changedIn (changedResult (salvaging files l files report .answer)) ≡ salvaging files l files report .answer
+  changed-back l report = go (ltb (length report) (l .slots)) refl
+    where
+      go : (t : Bool) → ltb (length report) (l .slots) ≡ t → changedIn (changedResult (salvaging files l files report .answer)) ≡ salvaging files l files report .answer
       go true e = rw e refl
       go false e = rw e refl
 
@@ -149,6 +156,12 @@ module _ (k : Kind) (d : Density) (f n : ℕ) (img : List ℕ) (accepts : checkO
       let z : r ≡ doneResult (callOf img c .answer) = cc in
       let o : after ≡ callOf img c .state = cc in
       by c (ap doneIn (z ∙ ap doneResult (answer-is c)) ∙ removed-back files _ j (numbered c)) (sym (remove-output files _ j)) (o ∙ state-is c)
+  told-made (salvaged lent r report after) e =
+      let c = salvage lent in
+      let z : r ≡ changedResult (callOf img c .answer) = cc in
+      let o : report ≡ callOf img c .output = cc in
+      let q : after ≡ callOf img c .state = cc in
+      by c (ap changedIn (z ∙ ap changedResult (answer-is c)) ∙ changed-back (filesIn l img) l lent) (o ∙ output-is c) (q ∙ state-is c)
 
 -- Whatever the image, a refused call tells C its refusal and 0 in all else, and leaves what was lent.
 pub told-refusal : (img : List ℕ) (c : Call) (r : Refusal) → callOf img c .answer .refusal ≡ some r → toldOf img c ≡ refusedTurn img c r
@@ -158,6 +171,7 @@ told-refusal img (find name) r e = rw (unchanged img (find name) r e) refl
 told-refusal img (page s offset out) r e = rw (unchanged img (page s offset out) r e) refl
 told-refusal img (put name type content) r e = rw (unchanged img (put name type content) r e) refl
 told-refusal img (remove name) r e = rw (unchanged img (remove name) r e) refl
+told-refusal img (salvage report) r e = rw (unchanged img (salvage report) r e) refl
 
 -- ---- sequences
 

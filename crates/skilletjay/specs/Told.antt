@@ -11,14 +11,15 @@ use Rattle.laws.specs.Truth.{pick}
 use Rattle.laws.specs.declared.Refusal.{Refusal}
 use Rattle.laws.specs.Refusals.{refusalAt}
 use Rattle.layout.specs.declared.Layout.{Layout}
-use Rattle.record.specs.Record.{Call, check, list, find, page, put, remove, Answer, Turn}
+use Rattle.record.specs.Record.{Call, check, list, find, page, put, remove, salvage, Answer, Turn}
 use Rattle.rules.specs.Check.{callOf}
 use Rattle.skilletjay.specs.declared.CChecked.{CChecked}
 use Rattle.skilletjay.specs.declared.CListed.{CListed}
 use Rattle.skilletjay.specs.declared.CFound.{CFound}
 use Rattle.skilletjay.specs.declared.CPaged.{CPaged}
 use Rattle.skilletjay.specs.declared.CDone.{CDone}
-use Rattle.skilletjay.specs.Results.{checkedResult, listedResult, foundResult, pagedResult, doneResult}
+use Rattle.skilletjay.specs.declared.CCounted.{CCounted}
+use Rattle.skilletjay.specs.Results.{checkedResult, listedResult, foundResult, pagedResult, doneResult, changedResult}
 
 -- A call of one of C's functions that was made: its arguments, its result, and what it left in what was lent to it to write.
 pub data CTurn : Type 0 where
@@ -30,6 +31,8 @@ pub data CTurn : Type 0 where
   -- name, type, content; the image afterwards
   placed : List ℕ → ℕ → List ℕ → CFound → List ℕ → CTurn
   removed : List ℕ → CDone → List ℕ → CTurn
+  -- the report as it was lent; the report and the image afterwards
+  salvaged : List ℕ → CCounted → List ℕ → List ℕ → CTurn
 
 -- What a call of C's functions comes to on an image: its result, and what it leaves. Each function's contract is that the call made is this one.
 abbrev pub toldOf : List ℕ → Call → CTurn
@@ -39,6 +42,7 @@ toldOf img (find name) = found name (foundResult (callOf img (find name) .answer
 toldOf img (page slot offset lent) = paged slot offset lent (pagedResult (callOf img (page slot offset lent) .answer)) (callOf img (page slot offset lent) .output)
 toldOf img (put name type content) = placed name type content (foundResult (callOf img (put name type content) .answer)) (callOf img (put name type content) .state)
 toldOf img (remove name) = removed name (doneResult (callOf img (remove name) .answer)) (callOf img (remove name) .state)
+toldOf img (salvage lent) = salvaged lent (changedResult (callOf img (salvage lent) .answer)) (callOf img (salvage lent) .output) (callOf img (salvage lent) .state)
 
 -- A refused call: the refusal's number and place, 0 in every other field, and all that was lent as it was.
 abbrev pub refusedTurn : List ℕ → Call → Refusal → CTurn
@@ -48,6 +52,7 @@ refusedTurn img (find name) r = found name (record { refusal = r .number; place 
 refusedTurn img (page slot offset lent) r = paged slot offset lent (record { refusal = r .number; place = r .place; count = 0; end = false }) lent
 refusedTurn img (put name type content) r = placed name type content (record { refusal = r .number; place = r .place; slot = 0 }) img
 refusedTurn img (remove name) r = removed name (record { refusal = r .number; place = r .place }) img
+refusedTurn img (salvage lent) r = salvaged lent (record { refusal = r .number; place = r .place; count = 0 }) lent img
 
 -- ---- the answer that a result tells
 
@@ -80,6 +85,9 @@ pagedIn r = record { refusal = refusalIn (r .refusal) (r .place); value = r .cou
 abbrev pub doneIn : CDone → Answer
 doneIn r = record { refusal = refusalIn (r .refusal) (r .place); value = 0; free = 0; kind = 0; density = 0; name = []; type = 0; end = false }
 
+abbrev pub changedIn : CCounted → Answer
+changedIn r = record { refusal = refusalIn (r .refusal) (r .place); value = r .count; free = 0; kind = 0; density = 0; name = []; type = 0; end = false }
+
 -- A call of C's functions on an image of a layout as the call that it stands for, with its answer and what it left.
 abbrev pub turnIn : Layout → List ℕ → CTurn → Turn
 turnIn l img (checked r) = record { call = check; answer = checkedIn r; output = []; after = img }
@@ -88,6 +96,7 @@ turnIn l img (found name r) = record { call = find name; answer = foundIn r; out
 turnIn l img (paged slot offset lent r out) = record { call = page slot offset lent; answer = pagedIn r; output = out; after = img }
 turnIn l img (placed name type content r after) = record { call = put name type content; answer = foundIn r; output = []; after = after }
 turnIn l img (removed name r after) = record { call = remove name; answer = doneIn r; output = []; after = after }
+turnIn l img (salvaged lent r report after) = record { call = salvage lent; answer = changedIn r; output = report; after = after }
 
 -- A sequence of such calls, each on the image that the one before it left.
 abbrev pub CRan : Layout → List ℕ → List CTurn → Type 0

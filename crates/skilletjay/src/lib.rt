@@ -1,13 +1,13 @@
 // The C interface (include/skilletjay.h): each call takes any bytes, and promises every field of its result and every byte of a lent output.
 ghost use mathlib.Core.Path.{_≡_};
-ghost use Rattle.record.specs.Record.{check, list, find, page, put, remove, kindNumber, densityNumber};
+ghost use Rattle.record.specs.Record.{check, list, find, page, put, remove, salvage, kindNumber, densityNumber};
 ghost use Rattle.rules.specs.Check.{answerOf};
 ghost use Rattle.calls.specs.Answers.{foundOf, pagedOf, listedOf, removedOf};
 ghost use Rattle.locate.specs.Locate.{blocksOf};
 ghost use Rattle.session.specs.Script.{afterRun, runOf};
 ghost use Rattle.samples.specs.Samples.{unpackOf, packOf};
 ghost use Rattle.program.specs.Program.{programOf};
-ghost use Rattle.skilletjay.specs.Told.{toldOf, checked, listed, found, paged, placed, removed};
+ghost use Rattle.skilletjay.specs.Told.{toldOf, checked, listed, found, paged, placed, removed, salvaged};
 ghost use Rattle.skilletjay.specs.Results.{checkedResult, listedWith, foundResult, pagedResult, doneResult, countedResult};
 use samples::Sampler;
 
@@ -56,7 +56,7 @@ pub struct CDone {
     pub place: usize,
 }
 
-// sj_counted: blocks of a file, words of a sample, bytes of a file, keygroups of a program.
+// sj_counted: blocks of a file, words of a sample, bytes of a file, keygroups of a program, map values changed.
 #[repr(C)]
 pub struct CCounted {
     pub refusal: u32,
@@ -271,6 +271,15 @@ pub extern "C" fn sj_remove(image: &mut [u8], name: &[u8]) -> CDone
     ensures { λ r. ⌜ removed (now (name .entry)) r (now (image .exit)) ≡ toldOf (now (image .entry)) (remove (now (name .entry))) ⌝ }
 {
     done_result(calls::remove(image, name))
+}
+
+// Mends an image in place, says of each slot what became of it, and gives how many map values are others: refusals 1 and 2, then 21. The report's bytes
+// past those of the slots are kept; on a refusal all of them are, and the image too.
+#[no_mangle]
+pub extern "C" fn sj_salvage(image: &mut [u8], report: &mut [u8]) -> CCounted
+    ensures { λ r. ⌜ salvaged (now (report .entry)) r (now (report .exit)) (now (image .exit)) ≡ toldOf (now (image .entry)) (salvage (now (report .entry))) ⌝ }
+{
+    counted_result(calls::salvage(image, report))
 }
 
 // Makes the calls of a script one after another, and gives how many were made. Script and pool are lent and kept; each call's reply and page

@@ -72,6 +72,12 @@ pub fn remove(image: &mut [u8], name: &[u8]) -> Done {
     unsafe { raw::sj_remove(lent_mut(image), image.len(), lent(name), name.len()) }
 }
 
+/// `sj_salvage`.
+pub fn salvage(image: &mut [u8], report: &mut [u8]) -> Counted {
+    // SAFETY: image and report are writable for their lengths; two mutable slices lie apart.
+    unsafe { raw::sj_salvage(lent_mut(image), image.len(), lent_mut(report), report.len()) }
+}
+
 /// `sj_run`.
 pub fn run(image: &mut [u8], script: &[u8], pool: &[u8], output: &mut [u8]) -> usize {
     let script = apart(script, pool);

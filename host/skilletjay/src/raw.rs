@@ -87,6 +87,7 @@ unsafe extern "C" {
         content_len: usize,
     ) -> Found;
     pub fn sj_remove(image: *mut u8, image_len: usize, name: *const u8, name_len: usize) -> Done;
+    pub fn sj_salvage(image: *mut u8, image_len: usize, report: *mut u8, report_len: usize) -> Counted;
     pub fn sj_run(
         image: *mut u8,
         image_len: usize,

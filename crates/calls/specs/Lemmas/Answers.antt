@@ -1,5 +1,5 @@
 -- What a call comes to by the check's answer.
--- A refused image answers the check's refusal; an accepted one what the record says. Assumes nothing.
+-- A refused image answers the check's refusal, but that salvage mends it; an accepted one what the record says. Assumes nothing.
 use mathlib.Core.Path.{_≡_, refl, sym}
 use mathlib.Core.List.{List}
 use Prim.Native.Nat.{ℕ}
@@ -7,12 +7,12 @@ use lib.ListN.{length}
 use Rattle.laws.specs.Lemmas.Padded.{padded-nil}
 use Rattle.layout.specs.declared.Kind.{Kind}
 use Rattle.layout.specs.declared.Density.{Density}
-use Rattle.record.specs.Record.{shapeOf, Call, list, page, refusedBy}
+use Rattle.record.specs.Record.{shapeOf, Call, list, page}
 use Rattle.record.specs.Step.{stepImage}
 use Rattle.laws.specs.declared.Refusal.{Refusal}
 use Rattle.rules.specs.declared.Checked.{Checked}
 use Rattle.rules.specs.declared.Checked.the-variants.{Accepted, Refused}
-use Rattle.rules.specs.Check.{checkOf, refusalOf, lent, came, callOf}
+use Rattle.rules.specs.Check.{checkOf, refusalOf, came, unaccepted, callOf}
 use Rattle.calls.specs.declared.Listed.{Listed}
 use Rattle.calls.specs.declared.Metered.{Metered}
 use Rattle.calls.specs.Answers.{pagedOf, Lists, unlistedBy, unpagedBy}
@@ -20,7 +20,7 @@ use Rattle.calls.specs.Metered.{costIn}
 
 -- ---- by the check's answer
 
-pub call-refused : (img : List ℕ) (call : Call) {c : Checked} {r q : Refusal} → c ≡ checkOf img → c ≡ Refused r → q ≡ refusalOf c → came (refusedBy q) (lent call) img ≡ callOf img call
+pub call-refused : (img : List ℕ) (call : Call) {c : Checked} {r q : Refusal} → c ≡ checkOf img → c ≡ Refused r → q ≡ refusalOf c → unaccepted q img call ≡ callOf img call
 unfolding callOf
 call-refused img call e t u = rw (← e, u, t) refl
 

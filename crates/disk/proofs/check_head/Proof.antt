@@ -1,39 +1,27 @@
--- `disk::check_head` meets its contract: a short head and a wrong length are refusal 1, else the density's check.
--- By the two lengths. Assumes nothing.
-use mathlib.Core.Path.{sym, _∙_}
+-- `disk::check_head` meets its contract: what isn't known is refused as it is, else the kind's check.
+-- By what is known; a disk that is has a whole head. Assumes nothing.
+use mathlib.Core.Path.{_∙_}
 use borrow.Author.Needs.{needs}
-use Rattle.disk.specs.Lemmas.Steps.{start-short, start-low, start-high, start-none}
+use Rattle.disk.specs.Lemmas.Steps.{start-unknown, start-disk, start-long}
 use Rattle.disk.proofs.check_head.Statement.{statement}
 use Rattle.disk.proofs.check_head.Tie as tie
 
+check-as-requires : tie.Need-check-as-requires
+check-as-requires c κs = start-long _ _ (c .before .before .before .known .ensures) (c .before .disk .given .1)
+
 returns : tie.Need-returns
-returns c = start-short _ _ (c .if1 .taken)
+returns c = c .check-as .ensures ∙ start-disk _ _ (c .before .before .before .before .known .ensures) (c .before .before .disk .given .1)
 
 returns-2 : tie.Need-returns-2
-returns-2 c =
-    let y = c .before .before in
-    c .check-kinds .ensures ∙ start-low _ _ (y .before .if1 .left) (c .before .if2 .taken ∙ y .image-length .ensures)
-
-returns-3 : tie.Need-returns-3
-returns-3 c =
-    let y = c .before .before in
-    c .check-kinds2 .ensures ∙ start-high _ _ (y .before .before .before .if1 .left) (c .before .if3 .taken ∙ y .image-length2 .ensures)
-
-returns-4 : tie.Need-returns-4
-returns-4 c =
-    let y = c .before in
-    let x = y .before .before in
-    start-none _ _ (x .before .if1 .left) (λ e. y .before .if2 .left (e ∙ sym (x .image-length .ensures))) (λ e. c .if3 .left (e ∙ sym (y .image-length2 .ensures)))
+returns-2 c = start-unknown _ _ (c .before .before .before .known .ensures) (c .before .disk2 .given .1)
 
 pub check-head-spec : {M : Type 1} → statement M
 check-head-spec =
     tie.close
     (tie.spec
+    (λ c κs. search needs)
+    (λ c. search needs)
+    check-as-requires
+    (λ c. search needs)
     returns
-    (λ c κs. search needs)
-    (λ c κs. search needs)
-    returns-2
-    (λ c κs. search needs)
-    (λ c κs. search needs)
-    returns-3
-    returns-4)
+    returns-2)

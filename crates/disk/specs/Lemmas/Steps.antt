@@ -1,12 +1,13 @@
 -- The check's definitions in the steps in which the code takes them.
--- Each step is a part of `rules` or of `checkHead`, cut out by name; a refusal or the next step by what a search found. Assumes nothing.
+-- Each step is a part of `rules` or of `checkStart`, cut out by name; a refusal or the next step by what a search found. Assumes nothing.
 use mathlib.Core.Path.{_≡_, refl, sym, _∙_}
 use mathlib.Core.Bool.{Bool, true, false}
 use mathlib.Core.List.{List}
 use mathlib.Core.Option.{none}
 use Prim.Native.Nat.{ℕ, _≤_, _<_, min}
+use native.Mathlib.Decide.{decLt}
 use native.Mathlib.Omega.{arith}
-use lib.Dec.{ltb, eqb}
+use lib.Dec.{ltb}
 use lib.ListN.{length}
 use borrow.Author.Tests.{eq-eqb, ne-eqb, le-ltb, ltb-false}
 use Rattle.laws.specs.Truth.{pick}
@@ -29,8 +30,10 @@ use Rattle.laws.specs.declared.Refusal.{Refusal}
 use Rattle.laws.specs.Refusals.{refusalAt}
 use Rattle.view.specs.Rules.{rules, badSystem, malformed, repeated}
 use Rattle.rules.specs.declared.Checked.the-variants.{Accepted, Refused}
-use Rattle.rules.specs.Check.{densityOf, hasIdentity, kindOf, usedCount, checkAs, checkKinds, checkHead, checkStart}
-use Rattle.rules.specs.Lemmas.Steps.{kinds-none, kinds-some, as-passed, as-failed}
+use Rattle.rules.specs.declared.Known.{Known}
+use Rattle.rules.specs.declared.Known.the-variants.{Disk, Unknown}
+use Rattle.rules.specs.Check.{densityOf, hasIdentity, knownKind, knownHead, knownStart, usedCount, checkAs, checkStart}
+use Rattle.rules.specs.Lemmas.Steps.{as-passed, as-failed}
 use Rattle.rules.specs.Head.{head-holds}
 use Rattle.image.specs.Image.{viewOf}
 use Rattle.chains.specs.Passes.{chainRules}
@@ -80,43 +83,62 @@ module _ (k : Kind) (d : Density) {l : Layout} (made : l ≡ layoutOf k d) where
     as-fail t = sym (as-failed b d k (rw made at (sym ruled ∙ t)))
 
 module _ (d : Density) (b : ℕ → ℕ) where
-  pub kinds-900 : {r : Bool} → r ≡ hasIdentity (layoutOf S900 d) b → r ≡ true → checkAs S900 d b ≡ checkKinds d b
-  unfolding kindOf
-  kinds-900 e t = sym (kinds-some b d (rw (sym e ∙ t) refl))
+  pub kinds-900 : {r : Bool} → r ≡ hasIdentity (layoutOf S900 d) b → r ≡ true → Disk S900 d ≡ knownKind d b
+  unfolding knownKind
+  kinds-900 e t = rw (sym e ∙ t) refl
 
   module _ {r : Bool} (e : r ≡ hasIdentity (layoutOf S900 d) b) (t : r ≡ false) {q : Bool} (f : q ≡ hasIdentity (layoutOf S1000 d) b) where
-    pub kinds-1000 : q ≡ true → checkAs S1000 d b ≡ checkKinds d b
-    unfolding kindOf
-    kinds-1000 u = sym (kinds-some b d (rw (sym e ∙ t, sym f ∙ u) refl))
+    pub kinds-1000 : q ≡ true → Disk S1000 d ≡ knownKind d b
+    unfolding knownKind
+    kinds-1000 u = rw (sym e ∙ t, sym f ∙ u) refl
 
-    pub kinds-neither : q ≡ false → Refused (refusalAt 2 0) ≡ checkKinds d b
-    unfolding kindOf
-    kinds-neither u = sym (kinds-none b d (rw (sym e ∙ t, sym f ∙ u) refl))
+    pub kinds-neither : q ≡ false → Unknown (refusalAt 2 0) ≡ knownKind d b
+    unfolding knownKind
+    kinds-neither u = rw (sym e ∙ t, sym f ∙ u) refl
 
 module _ (head : List ℕ) (size : ℕ) where
-  none-by : (t u : Bool) → eqb size (lengthOf Low) ≡ t → eqb size (lengthOf High) ≡ u → size < 5120 → densityOf size ≡ none
+  none-by : size < 5120 → densityOf size ≡ none
   unfolding densityOf
-  none-by t u p q h = rw (ne-eqb size (lengthOf Low) (λ e. omega arith), ne-eqb size (lengthOf High) (λ e. omega arith)) refl
+  none-by h = rw (ne-eqb size (lengthOf Low) (λ e. omega arith), ne-eqb size (lengthOf High) (λ e. omega arith)) refl
 
   -- a head that is short: it isn't all that it could be, or the image itself is short
-  pub start-short : length head < 5120 → Refused (refusalAt 1 0) ≡ checkStart head size
-  unfolding checkStart
+  pub start-short : length head < 5120 → Unknown (refusalAt 1 0) ≡ knownStart head size
+  unfolding knownStart knownHead
   start-short h = go (ltb (length head) (min size 5120)) refl
     where
-      go : (t : Bool) → ltb (length head) (min size 5120) ≡ t → Refused (refusalAt 1 0) ≡ pick (ltb (length head) (min size 5120)) (Refused (refusalAt 1 0)) (checkHead size (bytes head))
+      go : (t : Bool) → ltb (length head) (min size 5120) ≡ t → Unknown (refusalAt 1 0) ≡ pick (ltb (length head) (min size 5120)) (Unknown (refusalAt 1 0)) (knownHead size (bytes head))
       go true e = rw e refl
-      go false e = rw (e, none-by _ _ refl refl (omega (arith, ltb-false (length head) (min size 5120) e))) refl
+      go false e = rw (e, none-by (omega (arith, ltb-false (length head) (min size 5120) e))) refl
 
   module _ (long : 5120 ≤ length head) where
-    pub start-low : size ≡ lengthOf Low → checkKinds Low (bytes head) ≡ checkStart head size
-    unfolding checkStart
+    pub start-low : size ≡ lengthOf Low → knownKind Low (bytes head) ≡ knownStart head size
+    unfolding knownStart knownHead densityOf
     start-low e = rw (le-ltb (length head) (min size 5120) (omega arith), eq-eqb size (lengthOf Low) e) refl
 
-    pub start-high : size ≡ lengthOf High → checkKinds High (bytes head) ≡ checkStart head size
-    unfolding checkStart
+    pub start-high : size ≡ lengthOf High → knownKind High (bytes head) ≡ knownStart head size
+    unfolding knownStart knownHead densityOf
     start-high e =
         rw (le-ltb (length head) (min size 5120) (omega arith), ne-eqb size (lengthOf Low) (λ z. omega arith), eq-eqb size (lengthOf High) e) refl
 
-    pub start-none : (size ≡ lengthOf Low → ⊥) → (size ≡ lengthOf High → ⊥) → Refused (refusalAt 1 0) ≡ checkStart head size
-    unfolding checkStart
+    pub start-none : (size ≡ lengthOf Low → ⊥) → (size ≡ lengthOf High → ⊥) → Unknown (refusalAt 1 0) ≡ knownStart head size
+    unfolding knownStart knownHead densityOf
     start-none p q = rw (le-ltb (length head) (min size 5120) (omega arith), ne-eqb size (lengthOf Low) p, ne-eqb size (lengthOf High) q) refl
+
+  -- ---- the check, by what is known
+
+  module _ {x : Known} (known : x ≡ knownStart head size) where
+    pub start-unknown : {r : Refusal} → x ≡ Unknown r → Refused r ≡ checkStart head size
+    unfolding checkStart
+    start-unknown e = rw (← known, e) refl
+
+    pub start-disk : {k : Kind} {d : Density} → x ≡ Disk k d → checkAs k d (bytes head) ≡ checkStart head size
+    unfolding checkStart
+    start-disk e = rw (← known, e) refl
+
+    -- a disk that is known has a whole head
+    pub start-long : {k : Kind} {d : Density} → x ≡ Disk k d → 5120 ≤ length head
+    start-long {k} {d} e = go (decLt (length head) 5120)
+      where
+        go : Dec (length head < 5120) → 5120 ≤ length head
+        go (no h) = omega arith
+        go (yes h) = let z : Unknown (refusalAt 1 0) ≡ Disk k d = start-short h ∙ sym known ∙ e in absurd (let o : _≡_ {A = ℕ} 0 1 = cc in omega arith)

@@ -11,13 +11,13 @@ use Rattle.layout.specs.declared.Layout.{Layout}
 use Rattle.layout.specs.Right.{LayoutRight}
 use Rattle.view.specs.Disk.{File}
 use Rattle.image.specs.Image.{filesIn, DiskRules}
-use Rattle.record.specs.Record.{Shape, Files, Call, check, list, find, page, put, remove, judgeName, judgePut, fileAt, finding, listing, paging, putting, removing, stepFiles}
+use Rattle.record.specs.Record.{Shape, Files, Call, check, list, find, page, put, remove, salvage, judgeName, judgePut, fileAt, finding, listing, paging, putting, removing, salvaging, stepFiles}
 use Rattle.record.specs.declared.Judged.{Judged}
 use Rattle.record.specs.declared.Judged.the-variants.{Refuse, Grant}
 use Rattle.record.specs.Lemmas.Update.{remove-rules, remove-files, put-rules, put-files}
-use Rattle.record.specs.Step.{imageAfter, reads-page, Reading, reads-find, reads-check, reads-list}
+use Rattle.record.specs.Step.{imageAfter, Reading, reads-check, reads-list, reads-find, reads-page, reads-salvage}
 
--- ---- only a page has an output
+-- ---- these calls have no output
 
 module _ {S : Type 0} (state : S) where
   pub list-output : (w : Option File) → listing state w .output ≡ []
@@ -36,7 +36,7 @@ module _ {S : Type 0} (state : S) where
   remove-output next (Refuse r) = refl
   remove-output next (Grant s) = refl
 
--- ---- calls that only read keep the record's files
+-- ---- calls that leave an image as it is keep the record's files
 
 module _ (files : Files) where
   finding-keeps : (j : Judged) → finding files j .state ≡ files
@@ -55,12 +55,20 @@ module _ (files : Files) where
       go true e = rw e refl
       go false e = rw e refl
 
+  salvaging-keeps : (l : Layout) (report : List ℕ) → salvaging files l files report .state ≡ files
+  salvaging-keeps l report = go (ltb (length report) (l .slots)) refl
+    where
+      go : (t : Bool) → ltb (length report) (l .slots) ≡ t → salvaging files l files report .state ≡ files
+      go true e = rw e refl
+      go false e = rw e refl
+
 pub reading-keeps : (shape : Shape) (files : Files) (c : Call) → Reading c → stepFiles shape files c .state ≡ files
 unfolding stepFiles
 reading-keeps shape files check reads-check = refl
 reading-keeps shape files (list s) (reads-list _) = listing-keeps files (fileAt (shape .layout) files s)
 reading-keeps shape files (find name) (reads-find _) = finding-keeps files (judgeName (shape .layout) files name)
 reading-keeps shape files (page s offset out) (reads-page _ _ _) = paging-keeps files (fileAt (shape .layout) files s) offset out
+reading-keeps shape files (salvage report) (reads-salvage _) = salvaging-keeps files (shape .layout) report
 
 -- ---- one call
 
@@ -102,3 +110,4 @@ module _ (shape : Shape) (right : LayoutRight (shape .layout)) (img : List ℕ) 
   step (page s offset out) = reading-step (page s offset out) (reads-page s offset out) refl
   step (put name type content) = put-step name type content (judgePut l (filesIn l img) name type content) refl
   step (remove name) = remove-step name (judgeName l (filesIn l img) name) refl
+  step (salvage report) = reading-step (salvage report) (reads-salvage report) refl

@@ -13,31 +13,41 @@ use Rattle.view.specs.declared.Ruled.the-variants.{Pass, Fail}
 use Rattle.view.specs.Rules.{rules}
 use Rattle.image.specs.Image.{viewOf}
 use Rattle.rules.specs.declared.Checked.the-variants.{Accepted, Refused}
-use Rattle.rules.specs.Check.{densityOf, kindOf, usedCount, checkAs, checkKinds, checkHead}
+use Rattle.rules.specs.declared.Known.the-variants.{Disk, Unknown}
+use Rattle.rules.specs.Check.{densityOf, kindOf, usedCount, knownHead, checkAs, checkHead}
 
 module _ (b : ℕ → ℕ) where
-  pub head-none : (n : ℕ) → densityOf n ≡ none → checkHead n b ≡ Refused (refusalAt 1 0)
+  -- ---- what is known
+
+  pub known-length : (n : ℕ) → densityOf n ≡ none → knownHead n b ≡ Unknown (refusalAt 1 0)
+  unfolding knownHead
+  known-length n e = rw e refl
+
+  module _ (n : ℕ) (d : Density) (size : densityOf n ≡ some d) where
+    pub known-kind : kindOf d b ≡ none → knownHead n b ≡ Unknown (refusalAt 2 0)
+    unfolding knownHead
+    known-kind e = rw (size, e) refl
+
+    pub known-disk : (k : Kind) → kindOf d b ≡ some k → knownHead n b ≡ Disk k d
+    unfolding knownHead
+    known-disk k e = rw (size, e) refl
+
+  -- ---- the check
+
+  pub head-unknown : (n : ℕ) {r : Refusal} → knownHead n b ≡ Unknown r → checkHead n b ≡ Refused r
   unfolding checkHead
-  head-none n e = rw e refl
+  head-unknown n e = rw e refl
 
-  pub head-some : (n : ℕ) {d : Density} → densityOf n ≡ some d → checkHead n b ≡ checkKinds d b
+  pub head-known : (n : ℕ) {k : Kind} {d : Density} → knownHead n b ≡ Disk k d → checkHead n b ≡ checkAs k d b
   unfolding checkHead
-  head-some n e = rw e refl
+  head-known n e = rw e refl
 
-  module _ (d : Density) where
-    pub kinds-none : kindOf d b ≡ none → checkKinds d b ≡ Refused (refusalAt 2 0)
-    unfolding checkKinds
-    kinds-none e = rw e refl
-
-    pub kinds-some : {k : Kind} → kindOf d b ≡ some k → checkKinds d b ≡ checkAs k d b
-    unfolding checkKinds
-    kinds-some e = rw e refl
-
-    pub as-passed : (k : Kind) → rules (layoutOf k d) (viewOf (layoutOf k d) b) ≡ Pass
+  module _ (d : Density) (k : Kind) where
+    pub as-passed : rules (layoutOf k d) (viewOf (layoutOf k d) b) ≡ Pass
         → checkAs k d b ≡ Accepted k d (usedCount (layoutOf k d) (viewOf (layoutOf k d) b)) (freeCount (layoutOf k d) (mapAt b))
     unfolding checkAs
-    as-passed k e = rw e refl
+    as-passed e = rw e refl
 
-    pub as-failed : (k : Kind) {r : Refusal} → rules (layoutOf k d) (viewOf (layoutOf k d) b) ≡ Fail r → checkAs k d b ≡ Refused r
+    pub as-failed : {r : Refusal} → rules (layoutOf k d) (viewOf (layoutOf k d) b) ≡ Fail r → checkAs k d b ≡ Refused r
     unfolding checkAs
-    as-failed k e = rw e refl
+    as-failed e = rw e refl

@@ -1,4 +1,4 @@
--- `disk::check_kinds` meets its contract: S900 if every slot has its identity, else S1000 if every slot has that, else refusal 2.
+-- `disk::known_kind` meets its contract: S900 if every slot has its identity, else S1000 if every slot has that, else refusal 2.
 -- By the two tests. Assumes nothing.
 use mathlib.Core.Path.{_≡_, ap, _∙_}
 use denote.Ref.{now}
@@ -9,8 +9,8 @@ use Rattle.layout.specs.declared.Layout.{Layout}
 use Rattle.layout.specs.Layouts.{layoutOf}
 use Rattle.rules.specs.Check.{hasIdentity}
 use Rattle.disk.specs.Lemmas.Steps.{directory-held, kinds-900, kinds-1000, kinds-neither}
-use Rattle.disk.proofs.check_kinds.Statement.{statement}
-use Rattle.disk.proofs.check_kinds.Tie as tie
+use Rattle.disk.proofs.known_kind.Statement.{statement}
+use Rattle.disk.proofs.known_kind.Tie as tie
 
 has-identity-requires : tie.Need-has-identity-requires
 has-identity-requires c κs =
@@ -27,8 +27,7 @@ second : (c : tie.After-has-identity2) → let a = c .before .before .before .be
 second c = c .has-identity2 .ensures ∙ ap (λ (l : Layout). hasIdentity l (bytes (now (c .before .before .before .before .before .before .args .head)))) (c .before .layout-of2 .ensures)
 
 returns : tie.Need-returns
-returns c =
-    c .check-as .ensures ∙ kinds-900 _ _ (first (c .before .before)) (c .before .if1 .taken)
+returns c = kinds-900 _ _ (first (c .before)) (c .if1 .taken)
 
 has-identity-requires-2 : tie.Need-has-identity-requires-2
 has-identity-requires-2 c κs =
@@ -37,9 +36,9 @@ has-identity-requires-2 c κs =
 
 returns-2 : tie.Need-returns-2
 returns-2 c =
-    let h = c .before .before in
+    let h = c .before in
     let g = h .before .before .before in
-    c .check-as2 .ensures ∙ kinds-1000 _ _ (first g) (h .before .before .if1 .left) (second h) (c .before .if2 .taken)
+    kinds-1000 _ _ (first g) (h .before .before .if1 .left) (second h) (c .if2 .taken)
 
 returns-3 : tie.Need-returns-3
 returns-3 c =
@@ -47,16 +46,14 @@ returns-3 c =
     let g = h .before .before .before in
     kinds-neither _ _ (first g) (h .before .before .if1 .left) (second h) (c .if2 .left)
 
-pub check-kinds-spec : {M : Type 1} → statement M
-check-kinds-spec =
+pub known-kind-spec : {M : Type 1} → statement M
+known-kind-spec =
     tie.close
     (tie.spec
     (λ c κs. search needs)
     has-identity-requires
-    (λ c κs. search needs)
     returns
     (λ c κs. search needs)
     has-identity-requires-2
-    (λ c κs. search needs)
     returns-2
     returns-3)

@@ -1,0 +1,4 @@
+pub mod Salvage
+pub mod Said
+pub mod Theorems
+pub mod Lemmas
