@@ -140,3 +140,50 @@ pub(crate) fn cost(image: &[u8], slot: usize, offset: usize, size: usize) {
     let mut out = io::large_buffer();
     cost_into(image, slot, offset, &mut out, size);
 }
+
+// The answer of a salvage run, without its line's end.
+fn print_counted(counted: laws::Counted) {
+    match counted {
+        laws::Counted::Done(count) => print::number(b"count ", count),
+        laws::Counted::Refused(refusal) => print::refusal(refusal),
+    }
+}
+
+// All bytes of a report in groups of eight, each group after a space.
+fn print_report(report: &[u8]) {
+    let mut i = 0;
+    while i < report.len() {
+        let said = wide(report[i]);
+        if i % 8 == 0 {
+            print::number(b" ", said);
+        } else {
+            print::number(b"", said);
+        }
+        i += 1;
+    }
+}
+
+// Mends the image with all of the report, and prints the answer and the report, which a refusal must have kept.
+fn salvage_to(image: &mut [u8], report: &mut [u8]) {
+    let counted = calls::salvage(image, report);
+    print_counted(counted);
+    print_report(report);
+    print::line_end();
+}
+
+// Mends the image with the report's first bytes, as many as asked for.
+fn salvage_part(image: &mut [u8], report: &mut [u8], size: usize) {
+    if size <= report.len() {
+        salvage_to(image, &mut report[0..size]);
+    }
+}
+
+fn salvage_into(image: &mut [u8], report: &mut [u8; 4096], size: usize) {
+    salvage_part(image, report, size);
+}
+
+// Mends the image with a report of `size` bytes of 9, at most 4,096, and prints the answer.
+pub(crate) fn salvage(image: &mut [u8], size: usize) {
+    let mut report = [9u8; 4096];
+    salvage_into(image, &mut report, size);
+}

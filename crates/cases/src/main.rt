@@ -15,6 +15,9 @@
 //                                        which held 238 before: those past the count are seen to be kept,
 //                                        and all of them on a refusal
 //   took SLOT OFFSET SIZE                prints the answer of a page into SIZE bytes, at most 65,536, and what it cost
+//   salvage SIZE                         mends the image with a report of SIZE bytes of 9, at most 4,096; prints the
+//                                        answer and all bytes of the report, in groups of eight: those past 64 are
+//                                        seen to be kept, and all of them on a refusal
 mod answers;
 mod build;
 mod line;
@@ -82,10 +85,30 @@ fn ask_first(image: &Image, length: usize, text: &[u8]) {
     ask_part(image, length, text);
 }
 
+// Runs a command that mends the image.
+fn mend(image: &mut [u8], text: &[u8]) {
+    let a = line::number(text, line::word_end(text, 0));
+    if line::byte_at(text, 0) == b's' {
+        answers::salvage(image, a.value);
+    }
+}
+
+// Runs it on the image's first bytes, as many as it has.
+fn mend_part(image: &mut [u8], length: usize, text: &[u8]) {
+    if length <= image.len() {
+        mend(&mut image[0..length], text);
+    }
+}
+
+fn mend_first(image: &mut Image, length: usize, text: &[u8]) {
+    mend_part(image, length, text);
+}
+
 // Runs one line, and gives the image's length after it.
 fn command(image: &mut Image, length: usize, text: &[u8]) -> usize {
     let after = store(image, length, text);
     ask_first(image, after, text);
+    mend_first(image, after, text);
     after
 }
 
