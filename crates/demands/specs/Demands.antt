@@ -7,13 +7,14 @@
 --   toldOf and turnIn (skilletjay/specs/Told): C's results; listingOf (listing/specs/Listing): the listing program's text;
 --   lastBlock (rules/specs/Mark), Other and Reaches (map/specs/Values): request one;
 --   akaiiOf, asciiOf and capital (names/specs/Akaii), capitals (names/specs/Names), keptFile (record/specs/Record), inCapitals (record/specs/Spelling): request two;
---   costOf, blocksHolding and holds (pages/specs/Cost), costIn (calls/specs/Metered): request three.
+--   costOf, blocksHolding and holds (pages/specs/Cost), costIn (calls/specs/Metered): request three;
+--   verdict to salvageImage and mapChanges (salvage/specs/Salvage), Said (salvage/specs/Said), knownOf and salvageOf (rules/specs/Check): request four.
 -- That the code does so is what each function's contract says, and those are proved with it. Assumes nothing.
 use mathlib.Core.Path.{_≡_, refl}
 use mathlib.Core.Bool.{true, false}
 use mathlib.Core.List.{List, [], _++_, map}
 use mathlib.Core.Option.{none, some}
-use mathlib.Core.Logic.{_↔_}
+use mathlib.Core.Logic.{_↔_, _⊎_}
 use Prim.Native.Nat.{ℕ, _+_, _-_, _*_, _/_, _≤_, _<_, min}
 use native.Mathlib.Omega.{arith}
 use lib.Dec.{eqb}
@@ -24,13 +25,16 @@ use Rattle.laws.specs.declared.Lowest.the-variants.{At, Nowhere}
 use Rattle.laws.specs.declared.Refusal.{Refusal}
 use Rattle.laws.specs.declared.Counted.the-variants.{Done}
 use Rattle.laws.specs.declared.Counted.the-variants as counted
-use Rattle.laws.specs.Refusals.{filled, unless}
-use Rattle.laws.specs.Scan.{total}
+use Rattle.laws.specs.Refusals.{refusalAt, filled, unless}
+use Rattle.laws.specs.Truth.{pick}
+use Rattle.laws.specs.Scan.{total, count}
 use Rattle.laws.specs.Splice.{splice, part}
-use Rattle.laws.specs.Reader.{bytes}
+use Rattle.laws.specs.Reader.{bytes, tab}
+use Rattle.laws.specs.Member.{In}
 use Rattle.layout.specs.declared.Kind.{Kind}
 use Rattle.layout.specs.declared.Kind.the-variants.{S900, S1000}
 use Rattle.layout.specs.declared.Density.{Density}
+use Rattle.layout.specs.declared.Layout.{Layout}
 use Rattle.layout.specs.Layouts.{layoutOf, lengthOf, blocksOf, firstOf, mapOffset, blockOffset}
 use Rattle.layout.specs.Right as right
 use Rattle.layout.specs.Right.{layout-right}
@@ -43,21 +47,31 @@ use Rattle.names.specs.NameLaws as names
 use Rattle.map.specs.Map.{mapAt, freeCount, Data, chain, Astray, Miscounted}
 use Rattle.map.specs.Values as values
 use Rattle.map.specs.Values.{Other, Reaches}
-use Rattle.view.specs.Disk.{View, File, takes, Owns}
+use Rattle.view.specs.Disk.{View, File, owned, contentOf, takes, Owns}
+use Rattle.view.specs.Rules.{badSystem, stray}
 use Rattle.view.specs.Broken.{Breaks, owner}
-use Rattle.image.specs.Image.{filesIn, DiskRules, removeImage}
-use Rattle.record.specs.Record.{Shape, Files, Call, check, list, find, page, put, remove, refused, refusedBy, valued, paged, done, Turn, keptFile, fileCount, slotOf, emptySlot, free, fileAt, refuse, judgeName, judgePut, stepFiles}
+use Rattle.image.specs.Image.{viewOf, filesIn, DiskRules, removeImage}
+use Rattle.image.specs.Outside.{InEntry, InMap}
+use Rattle.salvage.specs.Salvage.{noEntry, drops, diskAfter, reportOf, survivors, salvageImage, mapChanges, reportAfter}
+use Rattle.salvage.specs.Said as said
+use Rattle.salvage.specs.Said.{Said}
+use Rattle.salvage.specs.Theorems as salvages
+use Rattle.salvage.specs.Theorems.{SalvageTouches}
+use Rattle.record.specs.Record.{Shape, Files, Call, check, list, find, page, put, remove, salvage, refused, refusedBy, valued, paged, done, Turn, keptFile, fileCount, slotOf, emptySlot, free, fileAt, refuse, judgeName, judgePut, keptReport, salvaging, stepFiles}
 use Rattle.record.specs.Order.{roomFor}
 use Rattle.record.specs.Order as order
 use Rattle.record.specs.Spelling.{inCapitals}
 use Rattle.rules.specs.declared.Checked.the-variants.{Accepted, Refused}
-use Rattle.rules.specs.Check.{checkOf, lent, came, callOf, Made}
+use Rattle.rules.specs.declared.Known.the-variants.{Disk, Unknown}
+use Rattle.rules.specs.Check.{knownOf, checkOf, lent, came, salvageOf, callOf, Made}
 use Rattle.rules.specs.Accepted as accepted
-use Rattle.rules.specs.Accepted.{acceptedAs}
+use Rattle.rules.specs.Accepted.{acceptedAs, Identified}
 use Rattle.rules.specs.Exactly as exactly
 use Rattle.rules.specs.Exactly.{Owed}
 use Rattle.rules.specs.Head as head
 use Rattle.rules.specs.Head.{Read}
+use Rattle.rules.specs.Lemmas.Steps as steps
+use Rattle.rules.specs.Salvage as salvaged
 use Rattle.rules.specs.Refused as refusals
 use Rattle.rules.specs.Small as small
 use Rattle.rules.specs.Small.{Numbered}
@@ -375,3 +389,99 @@ holds-exactly = cost.holds-exactly
 
 pub blocks-between : (blocks offset size : ℕ) → 1 ≤ size → offset + size ≤ 1024 * blocks → blocksHolding blocks offset size ≡ (offset + size - 1) / 1024 - offset / 1024 + 1
 blocks-between = cost.blocks-between
+
+-- ---- Request four: a salvage run, with a statement of loss
+
+-- The call on any bytes: 1 and 2 as the check gives them, then 21, and nothing else is refused; else it is done.
+pub salvage-any : (img report : List ℕ) → callOf img (salvage report) ≡ salvageOf img report
+salvage-any = salvaged.salvage-call
+
+pub known-exactly : (img : List ℕ) (k : Kind) (d : Density) → (knownOf img ≡ Disk k d) ↔ ((length img ≡ lengthOf d) × Identified k d (bytes img))
+known-exactly img k d = (accepted.known-is (length img) (bytes img) k d, λ p. accepted.is-known (length img) (bytes img) k d (p .0) (p .1))
+
+pub unknown-refused : (img : List ℕ) (r : Refusal) → knownOf img ≡ Unknown r → checkOf img ≡ Refused r
+unknown-refused img r = steps.head-unknown (bytes img) (length img)
+
+pub salvage-refuses : (img report : List ℕ) (r : Refusal)
+    → (salvageOf img report .answer .refusal ≡ some r)
+    ↔ ((knownOf img ≡ Unknown r) ⊎ ((k : Kind) × (d : Density) × (knownOf img ≡ Disk k d) × (length report < layoutOf k d .slots) × (r ≡ refusalAt 21 0)))
+salvage-refuses = salvaged.salvage-refuses
+
+pub salvage-done : (k : Kind) (d : Density) (img : List ℕ) → knownOf img ≡ Disk k d → (report : List ℕ) → layoutOf k d .slots ≤ length report
+    → let l = layoutOf k d in salvageOf img report ≡ came (valued (mapChanges l img (salvageImage l img))) (reportAfter l img report) (salvageImage l img)
+salvage-done = salvaged.salvage-done
+
+-- The result is always accepted, as the kind and density that it was.
+pub salvage-accepted : (k : Kind) (d : Density) (img : List ℕ) → knownOf img ≡ Disk k d → checkOf (salvageImage (layoutOf k d) img) ≡ acceptedAs k d (salvageImage (layoutOf k d) img)
+salvage-accepted = salvaged.salvage-accepted
+
+-- Slot by slot the number is the first that applies, names and chains compared with kept lower slots, chains judged on the map as given.
+pub report-exactly : (k : Kind) (d : Density) (v : View) (s : ℕ) → s < layoutOf k d .slots → (n : ℕ) → (reportOf (layoutOf k d) v s ≡ n) ↔ Said (layoutOf k d) (diskAfter (layoutOf k d) v s) s n
+report-exactly k d = said.report-exactly (layoutOf k d) (layout-right k d)
+
+module _ (k : Kind) (d : Density) (img : List ℕ) (known : knownOf img ≡ Disk k d) where
+  abbrev l : Layout
+  l = layoutOf k d
+
+  abbrev given : View
+  given = viewOf l (bytes img)
+
+  abbrev mended : List ℕ
+  mended = salvageImage l img
+
+  -- A kept file is what its own chain says in the given map, in its slot; every other slot is empty. 1 is said exactly of what is kept.
+  pub salvage-kept : (s : ℕ) → s < l .slots → reportOf l given s ≡ 1
+      → filesIn l mended s ≡ some (record { name = nameOf l (given .entry s .area); type = given .entry s .type; content = contentOf given (given .entry s) })
+  salvage-kept = salvages.salvage-kept l (layout-right k d) img (salvaged.known-size k d img known)
+
+  pub salvage-gone : (s : ℕ) → s < l .slots → (reportOf l given s ≡ 1 → ⊥) → filesIn l mended s ≡ none
+  salvage-gone = salvages.salvage-gone l (layout-right k d) img (salvaged.known-size k d img known)
+
+  pub kept-exactly : (s : ℕ) → s < l .slots → (reportOf l given s ≡ 1) ↔ ((f : File) × (filesIn l mended s ≡ some f))
+  kept-exactly = salvages.kept-exactly l (layout-right k d) img (salvaged.known-size k d img known)
+
+  -- A dropped slot is as remove leaves it.
+  pub salvage-erased : (s : ℕ) → s < l .slots → drops (reportOf l given s) ≡ true → viewOf l (bytes mended) .entry s ≡ noEntry
+  salvage-erased = salvages.salvage-erased l (layout-right k d) img (salvaged.known-size k d img known)
+
+  -- System values are restored, kept chains' map values stay, those of every other data block are 0; S900 system values, which nobody reads, stay.
+  pub salvage-system : (b : ℕ) → b < l .system → mapAt (bytes mended) b ≡ l .reserved
+  salvage-system = salvages.salvage-system l (layout-right k d) img (salvaged.known-size k d img known)
+
+  pub salvage-chained : (b : ℕ) → Data l b → In b (owned (survivors l given) (l .slots)) → mapAt (bytes mended) b ≡ mapAt (bytes img) b
+  salvage-chained = salvages.salvage-chained l (layout-right k d) img (salvaged.known-size k d img known)
+
+  pub salvage-freed : (b : ℕ) → Data l b → (In b (owned (survivors l given) (l .slots)) → ⊥) → mapAt (bytes mended) b ≡ 0
+  salvage-freed = salvages.salvage-freed l (layout-right k d) img (salvaged.known-size k d img known)
+
+  pub salvage-unread : (b : ℕ) → l .system ≤ b → b < l .first → mapAt (bytes mended) b ≡ mapAt (bytes img) b
+  salvage-unread = salvages.salvage-unread l (layout-right k d) img (salvaged.known-size k d img known)
+
+  -- No other byte changes: a byte that does lies in the first 22 of a dropped slot or in a map value, and none is a data byte.
+  pub salvage-outside : (i : ℕ) → (SalvageTouches l img i → ⊥) → bytes mended i ≡ bytes img i
+  salvage-outside = salvages.salvage-outside l img
+
+  pub salvage-where : (i : ℕ) → SalvageTouches l img i → ((s : ℕ) × (s < l .slots) × (drops (reportOf l given s) ≡ true) × InEntry l s i) ⊎ ((b : ℕ) × (b < l .blocks) × InMap b i)
+  salvage-where = salvages.touched-where l (layout-right k d) img
+
+  pub salvage-data : (i : ℕ) → blockOffset (l .first) ≤ i → bytes mended i ≡ bytes img i
+  salvage-data = salvages.salvage-data l (layout-right k d) img
+
+  -- The count: wrong system values, and data blocks on no kept chain that weren't free.
+  pub salvage-count : mapChanges l img mended ≡ count (badSystem l given) 0 (l .system) + count (stray l (survivors l given)) (l .first) (l .blocks - l .first)
+  salvage-count = salvages.salvage-count l (layout-right k d) img (salvaged.known-size k d img known)
+
+  -- Run again it changes nothing: it says 1 of what was kept and 0 of all else, and counts 0.
+  pub salvage-again : (report : List ℕ) → l .slots ≤ length report
+      → salvageOf mended report ≡ came (valued 0) (tab (λ s. pick (eqb (reportOf l given s) 1) 1 0) 0 (l .slots) ++ drop (l .slots) report) mended
+  salvage-again = salvaged.salvage-again k d img known
+
+-- An accepted image comes back untouched, with 0 and 1 in the report, and a count of 0.
+pub salvage-same : (k : Kind) (d : Density) (f n : ℕ) (img : List ℕ) → checkOf img ≡ Accepted k d f n → (report : List ℕ) → layoutOf k d .slots ≤ length report
+    → salvageOf img report ≡ came (valued 0) (keptReport (layoutOf k d) (filesIn (layoutOf k d) img) report) img
+salvage-same = salvaged.salvage-same
+
+-- So it stands among the calls of demand 3: by its report's length and the record's files alone, refused by 21 alone, and the files stay.
+pub salvage-record : (shape : Shape) (files : Files) (report : List ℕ) → stepFiles shape files (salvage report) ≡ salvaging files (shape .layout) files report
+unfolding stepFiles
+salvage-record shape files report = refl
