@@ -1,7 +1,7 @@
 //! A call, made by the library and by the model.
 
 use model::layout::{Density, Kind};
-use model::{Answer, calls, program, samples, script};
+use model::{Answer, calls, program, salvage, samples, script};
 use skilletjay::lend;
 use skilletjay::raw::{Checked, Counted, Done, Found, Listed, Paged};
 use std::fmt;
@@ -10,8 +10,8 @@ use std::fmt;
 /// odd addresses.
 pub const MARGIN: usize = 17;
 
-/// A call with its arguments, which may be anything. What is written to, `output` and the `words` of Unpack, has a
-/// margin on either side.
+/// A call with its arguments, which may be anything. What is written to, `output`, `report` and the `words` of Unpack, has
+/// a margin on either side.
 #[derive(Clone, PartialEq, Eq)]
 #[allow(missing_docs)]
 pub enum Call {
@@ -22,6 +22,7 @@ pub enum Call {
     Blocks { slot: usize, output: Vec<u16> },
     Put { name: Vec<u8>, file_type: u8, content: Vec<u8> },
     Remove { name: Vec<u8> },
+    Salvage { report: Vec<u8> },
     Run { script: Vec<u8>, pool: Vec<u8>, output: Vec<u8> },
     Unpack { kind: Kind, file: Vec<u8>, words: Vec<i16> },
     Pack { kind: Kind, header: Vec<u8>, words: Vec<i16>, output: Vec<u8> },
@@ -62,7 +63,7 @@ impl Given {
 pub struct Outcome {
     /// The answer.
     pub given: Given,
-    /// The output with its margins.
+    /// The output, or the report, with its margins.
     pub output: Vec<u8>,
     /// The output of words with its margins.
     pub words: Vec<i16>,
@@ -93,6 +94,10 @@ pub fn by_library(call: &Call, image: &mut [u8]) -> Outcome {
         }
         Call::Put { name, file_type, content } => Given::Found(lend::put(image, name, *file_type, content)),
         Call::Remove { name } => Given::Done(lend::remove(image, name)),
+        Call::Salvage { report } => {
+            out.clone_from(report);
+            Given::Counted(lend::salvage(image, lent(&mut out)))
+        }
         Call::Run { script, pool, output } => {
             out.clone_from(output);
             Given::Made(lend::run(image, script, pool, lent(&mut out)))
@@ -131,6 +136,10 @@ pub fn by_model(call: &Call, image: &mut [u8]) -> Outcome {
             Given::Found(found(calls::put(image, name, *file_type, content)))
         }
         Call::Remove { name } => Given::Done(done(calls::remove(image, name))),
+        Call::Salvage { report } => {
+            out.clone_from(report);
+            Given::Counted(counted(salvage::salvage(image, lent(&mut out))))
+        }
         Call::Run { script: entries, pool, output } => {
             out.clone_from(output);
             Given::Made(script::run(image, entries, pool, lent(&mut out)))
@@ -218,6 +227,7 @@ impl fmt::Display for Call {
                 write!(to, "put {} type {file_type} content {}", text(name), content.len())
             }
             Call::Remove { name } => write!(to, "remove {}", text(name)),
+            Call::Salvage { report } => write!(to, "salvage report {}", report.len() - 2 * MARGIN),
             Call::Run { script, pool, output } => {
                 let (script, pool, output) = (script.len(), pool.len(), output.len() - 2 * MARGIN);
                 write!(to, "run script {script} pool {pool} output {output}")

@@ -1,8 +1,8 @@
 //! A case: all that one seed decides.
 
-use crate::call::{Call, MARGIN, by_library, by_model};
-use crate::spellings::{self, Counts};
-use crate::{disks, programs, samples, scripts};
+use crate::call::{Call, MARGIN, Outcome, by_library, by_model};
+use crate::salvages::{self, Before};
+use crate::{disks, programs, samples, scripts, spellings};
 use model::random::Random;
 use std::fmt;
 
@@ -63,7 +63,9 @@ pub struct Tally {
     /// By the number they were refused with; 0 for those that were done.
     pub refusals: [usize; 22],
     /// Those that met another spelling of their name.
-    pub spellings: Counts,
+    pub spellings: spellings::Counts,
+    /// What salvages did.
+    pub salvages: salvages::Counts,
 }
 
 impl Tally {
@@ -76,6 +78,7 @@ impl Tally {
     pub fn add(&mut self, other: &Tally) {
         self.refusals.iter_mut().zip(other.refusals).for_each(|(sum, more)| *sum += more);
         self.spellings.iter_mut().zip(&other.spellings).for_each(|(sum, more)| sum.add(more));
+        self.salvages.iter_mut().zip(&other.salvages).for_each(|(sum, more)| sum.add(more));
     }
 }
 
@@ -107,18 +110,19 @@ impl Drop for Panicked {
 pub fn run(seed: u64) -> Ran {
     let _panicked = Panicked(Sort::Any, seed);
     let (mut case, mut random) = (Case::new(Sort::Any, seed), Random::new(seed));
-    match random.below(13) {
-        0 | 1 => disks::scattered(&mut case, &mut random)?,
-        2 => disks::near_full(&mut case, &mut random)?,
-        3 => disks::full_directory(&mut case, &mut random)?,
-        4 => disks::faults(&mut case, &mut random)?,
-        5 => disks::damage(&mut case, &mut random)?,
-        6 => disks::noise(&mut case, &mut random)?,
-        7 => scripts::run(&mut case, &mut random)?,
-        8 => samples::whole(&mut case, &mut random)?,
-        9 => samples::headers(&mut case, &mut random)?,
-        10 => samples::wrapping(&mut case, &mut random)?,
-        11 => programs::damaged(&mut case, &mut random)?,
+    match random.below(16) {
+        0..=2 => disks::scattered(&mut case, &mut random)?,
+        3 | 4 => disks::near_full(&mut case, &mut random)?,
+        5 => disks::full_directory(&mut case, &mut random)?,
+        6 => disks::faults(&mut case, &mut random)?,
+        7 => disks::damage(&mut case, &mut random)?,
+        8 => disks::wrecked(&mut case, &mut random)?,
+        9 => disks::noise(&mut case, &mut random)?,
+        10 => scripts::run(&mut case, &mut random)?,
+        11 => samples::whole(&mut case, &mut random)?,
+        12 => samples::headers(&mut case, &mut random)?,
+        13 => samples::wrapping(&mut case, &mut random)?,
+        14 => programs::damaged(&mut case, &mut random)?,
         _ => programs::pairs(&mut case, &mut random)?,
     }
     Ok(case.tally)
@@ -170,7 +174,9 @@ impl Case {
     pub fn call(&mut self, call: &Call) -> Result<(), Box<Disagreement>> {
         let end = self.model.len().saturating_sub(MARGIN);
         let start = MARGIN.min(end);
-        let (lent, respelt) = (call.clone(), spellings::met(call, &self.model[start..end]));
+        let image = &self.model[start..end];
+        let (lent, respelt, mended) =
+            (call.clone(), spellings::met(call, image), salvages::before(call, image));
         let library = by_library(&lent, &mut self.library[start..end]);
         let model = by_model(call, &mut self.model[start..end]);
         let difference = if lent != *call {
@@ -186,17 +192,21 @@ impl Case {
         } else if let Some(at) = first_apart(&self.library, &self.model) {
             format!("image at {}", told(&self.library, &self.model, at))
         } else {
-            self.count(call, model.given.refusal(), respelt);
+            self.count(call, &model, respelt, mended);
             return Ok(());
         };
         let (sort, seed, about, turn) = (self.sort, self.seed, self.about.clone(), self.tally.calls());
         Err(Box::new(Disagreement { sort, seed, about, turn, call: call.to_string(), difference }))
     }
 
-    fn count(&mut self, call: &Call, refusal: u32, respelt: Option<usize>) {
+    fn count(&mut self, call: &Call, outcome: &Outcome, respelt: Option<usize>, mended: Option<Before>) {
+        let refusal = outcome.given.refusal();
         self.tally.refusals[refusal as usize] += 1;
         if let Some(layout) = respelt {
             spellings::count(&mut self.tally.spellings, layout, call, refusal);
+        }
+        if let Some(before) = mended {
+            salvages::count(&mut self.tally.salvages, &before, refusal, &outcome.output[MARGIN..]);
         }
     }
 }

@@ -107,6 +107,12 @@ fn page_length(length: usize, random: &mut Random) -> usize {
     }
 }
 
+/// A report for a salvage, one in three too short.
+fn report(random: &mut Random) -> Vec<u8> {
+    let length = near(SLOTS, random);
+    output(length, random)
+}
+
 /// A call for a slot's blocks: no output, one too short, one that fits, or a longer one.
 fn blocks(disk: Option<&Disk>, random: &mut Random) -> Call {
     let slot = slot(disk, random);
@@ -130,7 +136,7 @@ fn content_length(free: usize, random: &mut Random) -> usize {
 
 /// Any call on a disk; `puts` of ten calls that change it put.
 pub fn call(kind: Kind, disk: Option<&Disk>, puts: usize, random: &mut Random) -> Call {
-    match random.below(11) {
+    match random.below(12) {
         0 => Call::Check,
         1 => Call::List { slot: slot(disk, random) },
         2 => Call::Find { name: name(kind, disk, random) },
@@ -145,6 +151,7 @@ pub fn call(kind: Kind, disk: Option<&Disk>, puts: usize, random: &mut Random) -
             }
         }
         6 => blocks(disk, random),
+        7 => Call::Salvage { report: report(random) },
         _ if random.below(10) < puts => {
             let length = content_length(disk.map_or(3, |disk| disk.free().len()), random);
             let (name, file_type) = (name(kind, disk, random), file_type(kind, random));

@@ -4,8 +4,8 @@ use crate::call::Call;
 use crate::case::{Case, Disagreement};
 use crate::choose;
 use model::disk::read;
-use model::faults::{FAULTS, damage as damage_bytes, spoil};
-use model::layout::{BLOCK, LAYOUTS, Layout};
+use model::faults::{FAULTS, damage as damage_bytes, spoil, wreck};
+use model::layout::{BLOCK, LAYOUTS, Layout, SLOT_BYTES, SLOTS};
 use model::maker::{self, Plan};
 use model::random::Random;
 
@@ -23,20 +23,48 @@ fn sequence(case: &mut Case, layout: Layout, plan: Plan, calls: usize, random: &
         let call = choose::call(layout.kind, disk.as_ref(), puts, random);
         case.call(&call)?;
     }
-    downloads(case, random)
+    downloads(case, 8, random)
 }
 
-/// Every file paged to its end; the pages' ends are compared as all answers are.
-fn downloads(case: &mut Case, random: &mut Random) -> Done {
+/// Every file paged to its end, in so many pages at most; the pages' ends are compared as all answers are.
+fn downloads(case: &mut Case, pages: usize, random: &mut Random) -> Done {
     let Ok(disk) = read(case.image()) else { return Ok(()) };
-    for slot in 0..64 {
+    for slot in 0..SLOTS {
         let Some(file) = disk.file(slot) else { continue };
-        let size = random.pick(&[BLOCK, BLOCK - 1, BLOCK + 1, 7 * BLOCK, 100_000]).max(file.length / 8);
+        let size =
+            random.pick(&[BLOCK, BLOCK - 1, BLOCK + 1, 7 * BLOCK, 100_000]).max(file.length / pages + 1);
         for offset in (0..file.length + 1).step_by(size) {
             case.call(&Call::Page { slot, offset, output: choose::output(size, random) })?;
         }
     }
     Ok(())
+}
+
+/// A salvage of the image, now and then after one whose report is too short. Then both accept the disk, and list and page every file of
+/// it alike; some calls more, which may use what was freed, and a second salvage.
+fn mended(case: &mut Case, random: &mut Random) -> Done {
+    if random.one_in(4) {
+        case.call(&Call::Salvage { report: choose::output(random.below(SLOTS), random) })?;
+    }
+    let room = SLOTS + random.pick(&[0, 0, 1, 40]);
+    case.call(&Call::Salvage { report: choose::output(room, random) })?;
+    case.call(&Call::Check)?;
+    let disk = match read(case.image()) {
+        Ok(disk) => disk,
+        Err(refusal) => {
+            assert!(refusal.number <= 2, "a mended image is refused: {refusal:?}");
+            return Ok(());
+        }
+    };
+    for slot in (0..SLOTS).filter(|&slot| disk.file(slot).is_some()) {
+        case.call(&Call::List { slot })?;
+    }
+    downloads(case, 1, random)?;
+    for _ in 0..random.below(4) {
+        let call = choose::call(disk.layout.kind, Some(&disk), 6, random);
+        case.call(&call)?;
+    }
+    case.call(&Call::Salvage { report: choose::output(SLOTS, random) })
 }
 
 /// Scattered chains and gaps.
@@ -87,6 +115,23 @@ pub fn faults(case: &mut Case, random: &mut Random) -> Done {
         for call in choose::each(layout.kind, Some(&disk), random) {
             case.call(&call)?;
         }
+        mended(case, random)?;
+    }
+    Ok(())
+}
+
+/// Many faults at once, again and again on the same disk: slots that are dropped have names and blocks of others.
+pub fn wrecked(case: &mut Case, random: &mut Random) -> Done {
+    let layout = random.pick(&LAYOUTS);
+    case.about(format!("many faults on {layout:?}"));
+    let good = maker::disk(layout, any_plan(layout, random), random);
+    let Ok(disk) = read(&good) else { return Ok(()) };
+    for _ in 0..30 {
+        let mut image = good.clone();
+        wreck(&mut image, &disk, random);
+        case.lend(&image);
+        case.call(&Call::Check)?;
+        mended(case, random)?;
     }
     Ok(())
 }
@@ -97,7 +142,7 @@ pub fn damage(case: &mut Case, random: &mut Random) -> Done {
     case.about(format!("damage on {layout:?}"));
     let good = maker::disk(layout, any_plan(layout, random), random);
     let disk = read(&good).ok();
-    for _ in 0..40 {
+    for _ in 0..25 {
         case.lend(&good);
         case.change(|image| damage_bytes(image, layout, random));
         case.call(&Call::Check)?;
@@ -106,27 +151,35 @@ pub fn damage(case: &mut Case, random: &mut Random) -> Done {
                 case.call(&call)?;
             }
         }
+        mended(case, random)?;
     }
     Ok(())
 }
 
-/// Bytes that are no disk: truncations, odd lengths, noise in directory and map.
+/// Bytes that are no disk: truncations, odd lengths, noise in directory and map, some of it of a known kind.
 pub fn noise(case: &mut Case, random: &mut Random) -> Done {
     let layout = random.pick(&LAYOUTS);
     case.about(format!("noise, {layout:?}"));
     let good = maker::disk(layout, any_plan(layout, random), random);
     for _ in 0..6 {
         let mut image = good.clone();
-        match random.below(4) {
+        match random.below(5) {
             0 => image.truncate(random.below(good.len())),
             1 => image.truncate(random.pick(&[0, 1, 24, 1535, 1536, 3136, 4736, 5120])),
             2 => image.resize(random.pick(&[819_199, 819_200, 819_201, 1_638_399, 1_638_400, 1_638_401]), 0),
-            _ => random.fill(&mut image[..5120]),
+            3 => random.fill(&mut image[..5120]),
+            _ => {
+                random.fill(&mut image[..5120]);
+                for slot in 0..SLOTS {
+                    image[SLOT_BYTES * slot + 22..][..2].copy_from_slice(&layout.identity());
+                }
+            }
         }
         case.lend(&image);
         for call in choose::each(layout.kind, None, random) {
             case.call(&call)?;
         }
+        mended(case, random)?;
     }
     Ok(())
 }

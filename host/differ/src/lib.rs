@@ -11,6 +11,7 @@ mod choose;
 pub mod costs;
 mod disks;
 mod programs;
+pub mod salvages;
 mod samples;
 mod scripts;
 pub mod spellings;

@@ -6,7 +6,7 @@ use crate::choose;
 use crate::disks::any_plan;
 use model::disk::read;
 use model::faults::damage;
-use model::layout::LAYOUTS;
+use model::layout::{LAYOUTS, SLOTS};
 use model::maker;
 use model::random::Random;
 use model::script::{ENTRY, PART};
@@ -65,8 +65,9 @@ fn fields(call: &Call, pool: &mut Vec<u8>, random: &mut Random) -> (u8, Vec<usiz
         [pool.len() - bytes.len(), bytes.len()]
     };
     match call {
-        // a script has no call for blocks
+        // a script has no call for blocks, and none for a salvage
         Call::List { slot } | Call::Blocks { slot, .. } => (0, vec![*slot]),
+        Call::Salvage { .. } => (0, vec![random.below(SLOTS)]),
         Call::Page { slot, offset, .. } => (1, vec![*slot, *offset]),
         Call::Find { name } => (2, pooled(name).to_vec()),
         Call::Remove { name } => (3, pooled(name).to_vec()),

@@ -22,12 +22,17 @@ pub struct Spellings {
 /// Counts by layout, in the order of [`LAYOUTS`].
 pub type Counts = [Spellings; 4];
 
+/// The layout that an image's length and its first identity say, as its place in [`LAYOUTS`].
+pub(crate) fn layout_of(image: &[u8]) -> Option<usize> {
+    LAYOUTS.iter().position(|layout| {
+        image.len() == layout.image_bytes() && image[SLOT_BYTES - 2..SLOT_BYTES] == layout.identity()
+    })
+}
+
 /// The layout of an image on which a call's name stands in another spelling, as its place in [`LAYOUTS`].
 pub fn met(call: &Call, image: &[u8]) -> Option<usize> {
     let (Call::Find { name } | Call::Put { name, .. } | Call::Remove { name }) = call else { return None };
-    let layout = LAYOUTS.iter().position(|layout| {
-        image.len() == layout.image_bytes() && image[SLOT_BYTES - 2..SLOT_BYTES] == layout.identity()
-    })?;
+    let layout = layout_of(image)?;
     let other = |slot: usize| {
         let bytes = &image[SLOT_BYTES * slot..][..SLOT_BYTES];
         let held = name_of(LAYOUTS[layout].kind, &bytes[..16]).filter(|_| bytes[16] != 0);

@@ -7,7 +7,7 @@ use std::path::Path;
 use std::process::Command;
 
 /// Fewest calls of a run.
-const CALLS: usize = 300_000;
+const CALLS: usize = 450_000;
 
 #[test]
 fn library_and_model_agree() {
@@ -26,6 +26,7 @@ fn library_and_model_agree() {
         assert!(enough, "{count} calls were refused by {number}");
     }
     spellings_were_met(&tally);
+    salvages_were_met(&tally);
 }
 
 /// On S1000 disks of both densities files were found and removed, and puts refused, by another spelling than the disk's; on
@@ -38,6 +39,25 @@ fn spellings_were_met(tally: &Tally) {
             Kind::S1000 => vec![met.found, met.used, met.removed],
         };
         assert!(counts.iter().all(|&count| count >= 30), "{layout:?}: {met:?}");
+    }
+}
+
+/// On all four layouts images were salvaged that the check refuses by each number, and accepted ones; slots were dropped for each reason; and
+/// some were kept with the name or the blocks of a dropped one. A report said nothing else.
+fn salvages_were_met(tally: &Tally) {
+    for (layout, met) in LAYOUTS.iter().zip(tally.salvages) {
+        println!("{layout:?}: {met:?}");
+        for (number, count) in met.images.into_iter().enumerate() {
+            let can = !(number == 1 || number == 2 || number == 3 && layout.kind == Kind::S900);
+            let enough = if can { count >= 20 } else { count == 0 };
+            assert!(enough, "{layout:?}: {count} images refused by {number} were salvaged");
+        }
+        for (said, count) in met.slots.into_iter().enumerate() {
+            let enough = if said == 2 || said == 3 { count == 0 } else { count >= 400 };
+            assert!(enough, "{layout:?}: {count} slots were reported as {said}");
+        }
+        let counts = [met.names, met.chains, met.short];
+        assert!(counts.iter().all(|&count| count >= 50), "{layout:?}: {met:?}");
     }
 }
 

@@ -145,8 +145,13 @@ pub fn remove(image: &mut [u8], name: &[u8]) -> Answer<()> {
     for block in disk.files[slot].iter().flat_map(|file| &file.chain) {
         set_map(image, *block, 0);
     }
-    image[SLOT_BYTES * slot..][..22].fill(0);
+    clear_slot(image, slot);
     Ok(())
+}
+
+/// Makes a slot zeros but for its identity.
+pub(crate) fn clear_slot(image: &mut [u8], slot: usize) {
+    image[SLOT_BYTES * slot..][..22].fill(0);
 }
 
 /// Writes a slot but for its identity.

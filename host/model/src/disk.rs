@@ -57,19 +57,28 @@ pub fn content(image: &[u8], file: &File) -> Vec<u8> {
 
 /// Takes an image apart, or refuses it by 1 to 9.
 pub fn read(image: &[u8]) -> Answer<Disk> {
-    let Some(density) = density_of(image.len()) else { return refuse(1, 0) };
-    let Some(kind) = kind_of(image) else { return refuse(2, 0) };
-    let layout = Layout { kind, density };
-    let map: Vec<usize> =
-        (0..layout.blocks()).map(|block| number(&image[MAP_AT + 2 * block..][..2])).collect();
+    let layout = layout_of(image)?;
+    let map = map_of(image, layout);
     system_values(layout, &map)?;
     let slots: Vec<Slot> = (0..SLOTS).map(|slot| slot_at(image, slot)).collect();
-    let names = names(kind, &slots)?;
+    let names = names(layout.kind, &slots)?;
     names_differ(&names)?;
     let chains = chains(layout, &map, &slots)?;
     chains_apart(layout, &chains)?;
     no_stray(layout, &map, &chains)?;
     Ok(Disk { layout, map, files: files(&slots, names, chains) })
+}
+
+/// Kind and density: 1, 2.
+pub(crate) fn layout_of(image: &[u8]) -> Answer<Layout> {
+    let Some(density) = density_of(image.len()) else { return refuse(1, 0) };
+    let Some(kind) = kind_of(image) else { return refuse(2, 0) };
+    Ok(Layout { kind, density })
+}
+
+/// The map's values, one for each block.
+pub(crate) fn map_of(image: &[u8], layout: Layout) -> Vec<usize> {
+    (0..layout.blocks()).map(|block| number(&image[MAP_AT + 2 * block..][..2])).collect()
 }
 
 fn density_of(length: usize) -> Option<Density> {
@@ -101,7 +110,7 @@ fn system_values(layout: Layout, map: &[usize]) -> Answer<()> {
 }
 
 /// A slot as its bytes say.
-struct Slot<'a> {
+pub(crate) struct Slot<'a> {
     area: &'a [u8],
     file_type: u8,
     length: usize,
@@ -109,12 +118,17 @@ struct Slot<'a> {
 }
 
 impl Slot<'_> {
-    fn is_used(&self) -> bool {
+    pub(crate) fn is_used(&self) -> bool {
         self.file_type != 0
+    }
+
+    /// The name in ASCII of a used slot, or None if it is malformed.
+    pub(crate) fn well_formed(&self, kind: Kind) -> Option<Vec<u8>> {
+        name_of(kind, self.area).filter(|_| is_type(kind, self.file_type) && self.length >= 1)
     }
 }
 
-fn slot_at(image: &[u8], slot: usize) -> Slot<'_> {
+pub(crate) fn slot_at(image: &[u8], slot: usize) -> Slot<'_> {
     let bytes = &image[SLOT_BYTES * slot..][..SLOT_BYTES];
     Slot {
         area: &bytes[0..16],
@@ -132,9 +146,9 @@ fn names(kind: Kind, slots: &[Slot]) -> Answer<Vec<Option<Vec<u8>>>> {
             names.push(None);
             continue;
         }
-        match name_of(kind, slot.area) {
-            Some(name) if is_type(kind, slot.file_type) && slot.length >= 1 => names.push(Some(name)),
-            _ => return refuse(4, at),
+        match slot.well_formed(kind) {
+            Some(name) => names.push(Some(name)),
+            None => return refuse(4, at),
         }
     }
     Ok(names)
@@ -162,7 +176,7 @@ fn chains(layout: Layout, map: &[usize], slots: &[Slot]) -> Answer<Vec<Vec<usize
 }
 
 /// A used slot's chain, or the number of its first fault.
-fn walk(layout: Layout, map: &[usize], slot: &Slot) -> Result<Vec<usize>, u32> {
+pub(crate) fn walk(layout: Layout, map: &[usize], slot: &Slot) -> Result<Vec<usize>, u32> {
     if !layout.is_link(slot.start) {
         return Err(6);
     }

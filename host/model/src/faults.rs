@@ -1,4 +1,4 @@
-//! Disks with one fault, and disks with any damage.
+//! Disks with one fault, disks with any damage, and disks with many faults.
 
 use crate::Refusal;
 use crate::calls::set_map;
@@ -221,5 +221,30 @@ pub fn damage(image: &mut [u8], layout: Layout, random: &mut Random) {
             2 => image[at].wrapping_add(1),
             _ => image[at] ^ (1 << random.below(8)),
         };
+    }
+}
+
+/// Heaps faults on an image of a known kind, up to two for each file: slots then repeat names and meet chains of others that have
+/// faults of their own. The disk is what the image held while it was valid.
+pub fn wreck(image: &mut Vec<u8>, disk: &Disk, random: &mut Random) {
+    let files = disk.files.iter().flatten().count();
+    // Now and then none of form, or none of name, or those from sharing on alone: they are asked for later, and hidden else.
+    let faults = &FAULTS[random.pick(&[2, 2, 7, 8, 12])..];
+    for _ in 0..random.within(2, 2 + 2 * files) {
+        match random.below(6) {
+            0 | 1 if faults.contains(&Fault::NameTwice) => copy_part(image, disk, 0, 22, random),
+            2 => copy_part(image, disk, 17, 5, random), // a chain
+            _ => {
+                spoil(image, disk, random.pick(faults), random);
+            }
+        }
+    }
+}
+
+/// Copies bytes of a used slot to the same place of any slot.
+fn copy_part(image: &mut [u8], disk: &Disk, at: usize, bytes: usize, random: &mut Random) {
+    if let Some(from) = used(disk, random) {
+        let to = random.below(SLOTS);
+        image.copy_within(SLOT_BYTES * from + at..SLOT_BYTES * from + at + bytes, SLOT_BYTES * to + at);
     }
 }

@@ -4,7 +4,7 @@
 //! apart, asks the rules in the paper's order, and puts the answer together by the shortest way. So where
 //! library and model agree, two independent readings of the paper agree.
 //!
-//! [`calls`] has the disk calls, [`samples`] and [`program`] the files, [`script`] whole scripts of calls, [`record`] the plain record of files
+//! [`calls`] has the disk calls, [`salvage`] the run that mends a disk, [`samples`] and [`program`] the files, [`script`] whole scripts of calls, [`record`] the plain record of files
 //! that a sequence of calls must behave as, and [`maker`], [`faults`] and [`files`] make disks and
 //! files for tests. [`tour`] is a disk to try the command on, and [`cases`] asks the program of that name.
 #![forbid(unsafe_code)]
@@ -20,6 +20,7 @@ pub mod names;
 pub mod program;
 pub mod random;
 pub mod record;
+pub mod salvage;
 pub mod samples;
 pub mod script;
 pub mod tour;

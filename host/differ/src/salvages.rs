@@ -1,0 +1,100 @@
+//! What salvages met: every reason, and slots that stay because those that stood in their way are dropped.
+
+use crate::call::Call;
+use crate::spellings::layout_of;
+use model::calls::check;
+use model::layout::{LAYOUTS, Layout, MAP_AT, SLOT_BYTES, SLOTS, blocks_for};
+
+/// What salvages did on one layout.
+#[derive(Clone, Copy, Debug, Default, PartialEq, Eq)]
+pub struct Salvages {
+    /// Images that were salvaged, by the number that the check refused them with before, or 0.
+    pub images: [usize; 10],
+    /// Their slots, by what the report says of them.
+    pub slots: [usize; 9],
+    /// Kept slots whose name a dropped lower slot had.
+    pub names: usize,
+    /// Kept slots with a block that a dropped lower slot's chain had.
+    pub chains: usize,
+    /// Images that were kept, since the report was too short.
+    pub short: usize,
+}
+
+/// Counts by layout, in the order of [`LAYOUTS`].
+pub type Counts = [Salvages; 4];
+
+/// An image of a known kind before a salvage.
+pub struct Before {
+    /// As its place in [`LAYOUTS`].
+    layout: usize,
+    /// Directory and map.
+    head: Vec<u8>,
+    /// What the check refuses it with, or 0.
+    refusal: usize,
+}
+
+/// What is to be known of an image before a call, if it is a salvage.
+pub fn before(call: &Call, image: &[u8]) -> Option<Before> {
+    let (Call::Salvage { .. }, Some(layout)) = (call, layout_of(image)) else { return None };
+    let refusal = check(image).map_or_else(|refusal| refusal.number as usize, |_| 0);
+    Some(Before { layout, head: image[..MAP_AT + 2 * LAYOUTS[layout].blocks()].to_vec(), refusal })
+}
+
+/// Counts a salvage, by what it was refused with, or 0, and what it reported.
+pub fn count(counts: &mut Counts, before: &Before, refusal: u32, report: &[u8]) {
+    let sum = &mut counts[before.layout];
+    match refusal {
+        0 => {
+            sum.images[before.refusal] += 1;
+            report[..SLOTS].iter().for_each(|&said| sum.slots[usize::from(said)] += 1);
+            count_freed(sum, before, report);
+        }
+        21 => sum.short += 1,
+        _ => {}
+    }
+}
+
+/// Counts the kept slots that have a name or a block of a dropped lower one.
+fn count_freed(sum: &mut Salvages, before: &Before, report: &[u8]) {
+    let layout = LAYOUTS[before.layout];
+    let (mut names, mut blocks) = (Vec::new(), vec![false; layout.blocks()]);
+    for (slot, said) in report[..SLOTS].iter().enumerate() {
+        let name = &before.head[SLOT_BYTES * slot..][..16];
+        let chain = chain(layout, &before.head, slot);
+        match said {
+            0 => {}
+            1 => {
+                sum.names += usize::from(names.contains(&name));
+                sum.chains += usize::from(chain.iter().any(|&block| blocks[block]));
+            }
+            _ => {
+                names.push(name);
+                chain.iter().for_each(|&block| blocks[block] = true);
+            }
+        }
+    }
+}
+
+/// A slot's chain as far as it goes.
+fn chain(layout: Layout, head: &[u8], slot: usize) -> Vec<usize> {
+    let two = |at: usize| usize::from(head[at]) + 256 * usize::from(head[at + 1]);
+    let entry = SLOT_BYTES * slot;
+    let length = two(entry + 17) + 65_536 * usize::from(head[entry + 19]);
+    let (mut chain, mut block) = (Vec::new(), two(entry + 20));
+    while chain.len() < blocks_for(length).min(layout.blocks()) && layout.is_link(block) {
+        chain.push(block);
+        block = two(MAP_AT + 2 * block);
+    }
+    chain
+}
+
+impl Salvages {
+    /// Adds other counts.
+    pub fn add(&mut self, other: &Salvages) {
+        self.images.iter_mut().zip(other.images).for_each(|(sum, more)| *sum += more);
+        self.slots.iter_mut().zip(other.slots).for_each(|(sum, more)| *sum += more);
+        self.names += other.names;
+        self.chains += other.chains;
+        self.short += other.short;
+    }
+}
