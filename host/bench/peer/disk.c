@@ -1,5 +1,5 @@
-/* The disk rules of document 01 by hand in plain C: what the library's check, put and remove are timed against. Each function has
- * the signature of the library's. */
+/* The disk rules of document 01 by hand in plain C: what the library's check, put, remove and salvage are timed against. Each function
+ * has the signature of the library's. */
 #include "skilletjay.h"
 
 #include <string.h>
@@ -284,4 +284,91 @@ sj_done peer_remove(uint8_t *image, size_t image_len, const uint8_t *name, size_
     }
     memset(entry, 0, 22);
     return (sj_done){0, 0};
+}
+
+/* The files that a salvage has kept so far. */
+typedef struct {
+    size_t files;
+    uint64_t names[SLOTS][2];   /* a name area's 16 bytes */
+    uint16_t keep[MOST_BLOCKS]; /* all ones where a block is on a chain of theirs, else 0 */
+} kept;
+
+/* Takes a chain's blocks, or gives the number of its first fault, 6, 7 or 8. One walk, which notes the blocks on its way: a step waits for the
+ * map value before it, and to go over the notes does not. */
+static uint32_t take_chain(const uint8_t *image, const layout *disk, const uint8_t *entry, uint16_t *keep) {
+    uint16_t chain[MOST_BLOCKS], shared = 0;
+    size_t last = blocks_for(number3(entry + 17)) - 1, block = number2(entry + 20);
+    if (last >= MOST_BLOCKS)
+        return walk(image, disk, entry); /* no disk has so many blocks: there is a fault */
+    if (!is_link(disk, block))
+        return 6;
+    for (size_t at = 0; at < last; at++) {
+        chain[at] = (uint16_t)block;
+        shared |= keep[block];
+        block = value_at(image, block);
+        if (!is_link(disk, block))
+            return block == disk->end_mark ? 7 : 6;
+    }
+    if (value_at(image, block) != disk->end_mark)
+        return 7;
+    chain[last] = (uint16_t)block;
+    if (shared || keep[block])
+        return 8;
+    for (size_t at = 0; at <= last; at++)
+        keep[chain[at]] = 0xFFFF;
+    return 0;
+}
+
+/* What a salvage reports of a slot. */
+static uint8_t judge(const uint8_t *image, const layout *disk, const uint8_t *entry, kept *so_far) {
+    uint64_t *name = so_far->names[so_far->files];
+    if (!is_used(entry))
+        return 0;
+    if (!is_well_formed(entry, disk))
+        return 4;
+    memcpy(name, entry, 16);
+    for (size_t file = 0; file < so_far->files; file++)
+        if (so_far->names[file][0] == name[0] && so_far->names[file][1] == name[1])
+            return 5;
+    uint32_t number = take_chain(image, disk, entry, so_far->keep);
+    if (number != 0)
+        return (uint8_t)number;
+    so_far->files++;
+    return 1;
+}
+
+/* Marks the system blocks, frees what is on no kept chain, and counts what is another value then. A mask of all ones or none has no byte
+ * order, so that the values are taken as they lie, and the count has 16 bits too: the compiler then handles several at once. */
+static size_t mend_map(uint8_t *image, const layout *disk, const uint16_t *keep) {
+    uint16_t marked = 0, freed = 0;
+    for (size_t block = 0; disk->kind == 1000 && block < disk->first; block++) {
+        marked += value_at(image, block) != SYSTEM;
+        set_value(image, block, SYSTEM);
+    }
+    for (size_t block = disk->first; block < disk->blocks; block++) {
+        uint16_t value, after;
+        memcpy(&value, image + MAP_AT + 2 * block, 2);
+        after = value & keep[block];
+        memcpy(image + MAP_AT + 2 * block, &after, 2);
+        freed += value != after;
+    }
+    return (size_t)marked + freed;
+}
+
+sj_counted peer_salvage(uint8_t *image, size_t image_len, uint8_t *report, size_t report_len) {
+    layout disk;
+    kept so_far;
+    fault found = read_layout(image, image_len, &disk);
+    if (found.number != 0)
+        return (sj_counted){found.number, found.place, 0};
+    if (report_len < SLOTS)
+        return (sj_counted){21, 0, 0};
+    so_far.files = 0;
+    memset(so_far.keep, 0, sizeof so_far.keep);
+    for (size_t slot = 0; slot < SLOTS; slot++) {
+        report[slot] = judge(image, &disk, image + ENTRY * slot, &so_far);
+        if (report[slot] > 1)
+            memset(image + ENTRY * slot, 0, 22);
+    }
+    return (sj_counted){0, 0, mend_map(image, &disk, so_far.keep)};
 }

@@ -3,7 +3,7 @@
 use crate::calls::{LIBRARY, PEER};
 use model::faults::{self, FAULTS};
 use model::files;
-use model::layout::{Kind, LAYOUTS};
+use model::layout::{Kind, LAYOUTS, SLOTS};
 use model::maker::{self, Plan};
 use model::random::Random;
 
@@ -30,18 +30,37 @@ fn disks(random: &mut Random) -> usize {
         let mut spoilt = image.clone();
         faults::spoil(&mut spoilt, &disk, fault, random);
         same_check(&spoilt);
+        same_salvage(&spoilt);
         let mut damaged = image.clone();
         faults::damage(&mut damaged, layout, random);
         same_check(&damaged);
+        same_salvage(&damaged);
+        let mut wrecked = image.clone();
+        faults::wreck(&mut wrecked, &disk, random);
+        same_salvage(&wrecked);
     }
     same_check(&image);
+    same_salvage(&image);
     changes(image, layout.kind, random);
-    2 * FAULTS.len() + 1
+    3 * FAULTS.len() + 1
 }
 
 /// Both check an image alike.
 pub fn same_check(image: &[u8]) {
     assert_eq!(LIBRARY.check(image), PEER.check(image), "check");
+}
+
+/// Both salvage an image alike, and refuse to where the report is too short; gives the report.
+pub fn same_salvage(image: &[u8]) -> [u8; SLOTS] {
+    let (mut ours, mut theirs) = (image.to_vec(), image.to_vec());
+    let (mut our, mut their) = ([9; SLOTS + 3], [9; SLOTS + 3]);
+    for room in [SLOTS - 1, SLOTS + 3] {
+        let salvaged = LIBRARY.salvage(&mut ours, &mut our[..room]);
+        assert_eq!(salvaged, PEER.salvage(&mut theirs, &mut their[..room]), "salvage");
+        assert_eq!(our, their, "reports");
+        assert!(ours == theirs, "images part");
+    }
+    std::array::from_fn(|slot| our[slot])
 }
 
 /// Puts and removes, legal and not, by the same name in more than one spelling.

@@ -6,6 +6,7 @@ use skilletjay::raw::{self, Checked, Counted, Done, Found};
 type Check = unsafe extern "C" fn(*const u8, usize) -> Checked;
 type Put = unsafe extern "C" fn(*mut u8, usize, *const u8, usize, u8, *const u8, usize) -> Found;
 type Remove = unsafe extern "C" fn(*mut u8, usize, *const u8, usize) -> Done;
+type Salvage = unsafe extern "C" fn(*mut u8, usize, *mut u8, usize) -> Counted;
 type Unpack = unsafe extern "C" fn(*const u8, usize, *mut i16, usize) -> Counted;
 type Pack = unsafe extern "C" fn(*const u8, usize, *const i16, usize, *mut u8, usize) -> Counted;
 
@@ -14,6 +15,7 @@ pub struct Calls {
     check: Check,
     put: Put,
     remove: Remove,
+    salvage: Salvage,
     s900: (Unpack, Pack),
     s1000: (Unpack, Pack),
 }
@@ -23,6 +25,7 @@ pub const LIBRARY: Calls = Calls {
     check: raw::sj_check,
     put: raw::sj_put,
     remove: raw::sj_remove,
+    salvage: raw::sj_salvage,
     s900: (raw::sj_s900_unpack, raw::sj_s900_pack),
     s1000: (raw::sj_s1000_unpack, raw::sj_s1000_pack),
 };
@@ -32,6 +35,7 @@ pub const PEER: Calls = Calls {
     check: peer_check,
     put: peer_put,
     remove: peer_remove,
+    salvage: peer_salvage,
     s900: (peer_s900_unpack, peer_s900_pack),
     s1000: (peer_s1000_unpack, peer_s1000_pack),
 };
@@ -41,6 +45,7 @@ unsafe extern "C" {
     fn peer_check(image: *const u8, image_len: usize) -> Checked;
     fn peer_put(image: *mut u8, image_len: usize, name: *const u8, name_len: usize, file_type: u8, content: *const u8, content_len: usize) -> Found;
     fn peer_remove(image: *mut u8, image_len: usize, name: *const u8, name_len: usize) -> Done;
+    fn peer_salvage(image: *mut u8, image_len: usize, report: *mut u8, report_len: usize) -> Counted;
     fn peer_s900_unpack(file: *const u8, file_len: usize, words: *mut i16, words_len: usize) -> Counted;
     fn peer_s900_pack(header: *const u8, header_len: usize, words: *const i16, words_len: usize, out: *mut u8, out_len: usize) -> Counted;
     fn peer_s1000_unpack(file: *const u8, file_len: usize, words: *mut i16, words_len: usize) -> Counted;
@@ -63,6 +68,10 @@ impl Calls {
 
     pub fn remove(&self, image: &mut [u8], name: &[u8]) -> Done {
         unsafe { (self.remove)(image.as_mut_ptr(), image.len(), name.as_ptr(), name.len()) }
+    }
+
+    pub fn salvage(&self, image: &mut [u8], report: &mut [u8]) -> Counted {
+        unsafe { (self.salvage)(image.as_mut_ptr(), image.len(), report.as_mut_ptr(), report.len()) }
     }
 
     pub fn unpack(&self, kind: Kind, file: &[u8], words: &mut [i16]) -> Counted {

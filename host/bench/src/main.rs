@@ -11,6 +11,7 @@ mod pages;
 mod processes;
 mod race;
 mod reader;
+mod salvages;
 mod samples;
 mod stack;
 mod table;
@@ -28,6 +29,7 @@ fn main() {
     pages::run(&mut table);
     let costs = pages::costs(&mut table, &root.join("target/bin/cases"));
     changes::run(&mut table);
+    salvages::run(&mut table);
     samples::run(&mut table);
     stack::run(&mut table);
     let processes = processes::run(&mut table, &root, program.with_file_name("sj").as_path());

@@ -4,7 +4,7 @@ use crate::calls::LIBRARY;
 use crate::disks::{Order, disk, high, name};
 use crate::table::Table;
 use model::files;
-use model::layout::Kind;
+use model::layout::{Kind, SLOTS};
 use model::random::Random;
 use skilletjay::lend;
 use std::ffi::c_void;
@@ -42,6 +42,7 @@ fn disk_calls() -> Vec<(&'static str, usize)> {
     let mut image = disk(kind, 63, blocks - 8, Order::Scattered);
     let (held, put, content) = (name(kind, 5), name(kind, 90), vec![1; 8000]);
     let (mut out, mut blocks, mut answers) = (vec![0; 1 << 16], vec![0; 1600], vec![0; 1044]);
+    let mut report = [0; SLOTS];
     let pool = [put.clone(), content.clone()].concat();
     // Puts the content, which stands in the pool after the name.
     let script = [4, b's', 0, 0, 0, 0, 0, 0, 12, 0, 0, 0, 12, 0, 0, 0, 64, 31, 0, 0];
@@ -53,6 +54,7 @@ fn disk_calls() -> Vec<(&'static str, usize)> {
         ("blocks", used(|| assert_eq!(lend::blocks(&image, 5, &mut blocks).refusal, 0))),
         ("put", used(|| assert_eq!(LIBRARY.put(&mut image, &put, b's', &content).refusal, 0))),
         ("remove", used(|| assert_eq!(LIBRARY.remove(&mut image, &put).refusal, 0))),
+        ("salvage", used(|| assert_eq!(LIBRARY.salvage(&mut image, &mut report).refusal, 0))),
         ("run", used(|| assert_eq!(lend::run(&mut image, &script, &pool, &mut answers), 1))),
     ]
 }
