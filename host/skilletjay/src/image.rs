@@ -1,7 +1,7 @@
 //! An image and the calls on it.
 
 use crate::download::Download;
-use crate::{Refusal, lend};
+use crate::{Refusal, Salvaged, lend};
 use std::fmt;
 
 /// Bytes of a block.
@@ -236,6 +236,33 @@ impl<B: AsRef<[u8]> + AsMut<[u8]>> Image<B> {
     pub fn remove(&mut self, name: impl AsRef<[u8]>) -> Result<(), Refusal> {
         let told = lend::remove(self.bytes.as_mut(), name.as_ref());
         Refusal::or(told.refusal, told.place, ())
+    }
+
+    /// Mends the image and says slot by slot what is lost: 1, 2, and no other. A slot is dropped that is malformed, or has
+    /// the name of a kept lower slot, a chain at fault, or a block of a kept chain; map values that no kept file needs
+    /// become those of free blocks. No content changes. Afterwards the image is accepted, and an accepted one comes
+    /// back as it was.
+    ///
+    /// ```
+    /// # use skilletjay::{Fate, Image, Slot};
+    /// # let mut image = Image::new(vec![0; 819_200]);
+    /// # image.put("KICK      ", b'S', &[1; 3000])?;
+    /// # image.put("SNARE     ", b'S', &[2; 3000])?;
+    /// # let mut bytes = image.into_bytes();
+    /// # bytes[1536 + 2 * 8] = 1; // a link to a system block
+    /// # let mut image = Image::new(bytes);
+    /// let refusal = image.check().unwrap_err(); // the chain of SNARE, in slot 1, leaves the data area
+    /// let salvaged = image.salvage()?;
+    /// assert_eq!(salvaged.slots[..3], [Fate::Kept, Fate::Dropped(refusal), Fate::Empty]);
+    /// assert_eq!(salvaged.map_values, 3); // its blocks are free
+    /// assert_eq!(image.check()?.files, 1);
+    /// assert_eq!(image.read(Slot(0))?, [1; 3000]);
+    /// # Ok::<(), skilletjay::Refusal>(())
+    /// ```
+    pub fn salvage(&mut self) -> Result<Salvaged, Refusal> {
+        let mut report = [0; SLOTS]; // long enough: never refused by 21
+        let told = lend::salvage(self.bytes.as_mut(), &mut report);
+        Refusal::or(told.refusal, told.place, Salvaged::of(&report, told.count))
     }
 }
 

@@ -2,7 +2,7 @@
 //!
 //! The calls are those of `include/skilletjay.h`, on Rust's own slices. An [`Image`] is any bytes, owned or
 //! borrowed; every call checks it first, so nothing has to be checked before. A call that can't be done gives a
-//! [`Refusal`] and changes nothing.
+//! [`Refusal`] and changes nothing. An image that is refused can be mended, with [`Image::salvage`].
 //!
 //! ```
 //! use skilletjay::{Image, Kind};
@@ -32,8 +32,10 @@ pub mod program;
 pub mod raw;
 mod refusal;
 pub mod rows;
+mod salvage;
 pub mod sample;
 
 pub use download::Download;
 pub use image::{BLOCK, Checked, Density, Entry, HEAD, Image, Kind, Paged, SLOTS, Slot};
 pub use refusal::{Place, Refusal};
+pub use salvage::{Fate, Salvaged};
