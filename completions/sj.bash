@@ -8,12 +8,13 @@ _sj_options() {
         put) echo "--name --type --replace --allow-empty-name --force --timeout $every" ;;
         mv) echo "--replace --allow-empty-name --force --timeout $every" ;;
         rm) echo "--force --timeout $every" ;;
+        salvage) echo "-o --in-place --dry-run --force --timeout $every" ;;
         pack) echo "--like -o --name --allow-empty-name --round --clip-loops $every" ;;
     esac
 }
 
 _sj() {
-    local commands='check ls get put mv rm unpack pack program help'
+    local commands='check ls get put mv rm salvage unpack pack program help'
     local word=${COMP_WORDS[COMP_CWORD]} before=${COMP_WORDS[COMP_CWORD - 1]} command=${COMP_WORDS[1]}
     local choice=()
     if ((COMP_CWORD == 1)); then

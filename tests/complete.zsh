@@ -16,5 +16,7 @@ becomes() {
 becomes 'sj unp' 'sj unpack '
 becomes 'sj get disk.img --al' 'sj get disk.img --all '
 becomes 'sj put --na' 'sj put --name '
+becomes 'sj sal' 'sj salvage '
+becomes 'sj salvage disk.img --dr' 'sj salvage disk.img --dry-run '
 becomes 'sj help ref' 'sj help refusals '
 becomes 'sj ls READ' 'sj ls README.md '

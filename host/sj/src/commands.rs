@@ -9,5 +9,6 @@ pub mod ls;
 pub mod many;
 pub mod program;
 pub mod put;
+pub mod salvage;
 pub mod samples;
 pub mod table;

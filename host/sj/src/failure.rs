@@ -74,6 +74,11 @@ impl Failure {
         Failure::new(2, "", words)
     }
 
+    /// The same with the status of what can't be read or written, for a command whose 1 says something else.
+    pub fn hindering(self) -> Failure {
+        self.with(|told| told.status = 2)
+    }
+
     /// The same, about a file on the image.
     pub fn on(self, name: &str) -> Failure {
         self.with(|told| told.name = name.trim_end().to_string())
@@ -131,7 +136,8 @@ impl Failure {
                 .text_if("counts", &counted(refusal.counts())),
             None => object,
         };
-        let words = if self.0.status == 1 { "words" } else { "error" };
+        let refused = self.0.status == 1 || self.0.refusal.is_some();
+        let words = if refused { "words" } else { "error" };
         object
             .text(words, &self.0.words)
             .text_if("advice", if manner.explain { &self.0.advice } else { "" })

@@ -35,6 +35,11 @@ fn read_open(file: &File, path: &Path, most: u64) -> Result<Vec<u8>, Failure> {
     Ok(bytes)
 }
 
+/// Reads an image whole.
+pub fn read_whole(path: &Path) -> Result<Image, Failure> {
+    read_up_to(path, MOST).map(Image::new)
+}
+
 /// Reads as much of an image as its check and its listing need.
 pub fn read_head(path: &Path) -> Result<Image, Failure> {
     Ok(Image::new(Opened::new(path)?.bytes))
@@ -117,7 +122,7 @@ pub fn refuse_itself(read: &Path, to: &Path) -> Result<(), Failure> {
 }
 
 /// What a file has alone, whatever its names.
-fn identity(about: &Metadata) -> (u64, u64) {
+pub fn identity(about: &Metadata) -> (u64, u64) {
     (about.dev(), about.ino())
 }
 
@@ -136,22 +141,59 @@ pub fn change<T>(
     how: Changing,
     change: impl FnOnce(&mut Image) -> Result<T, Failure>,
 ) -> Result<T, Failure> {
-    if input::is_standard(path) {
-        return Err(Failure::usage("standard input can't be changed; give the image's file"));
-    }
-    // Through links to the file itself, so that the rename replaces it and not a link.
-    let Target::Plain(at) = Target::of(path)? else {
-        return Err(Failure::file(path, io::Error::other("it is no plain file, and can't be changed")));
-    };
-    let file = lock(path, &at, how.timeout)?;
-    let mut image = Image::new(read_open(&file, path, MOST)?);
-    let given = change(&mut image)?;
-    beside::remove_stale(&at);
-    let old = Old::open(file).map_err(|error| Failure::file(path, error))?; // locked until it is closed
-    let mut draft = Beside::replacing(&at, &old, how.force)?;
-    draft.write(image.bytes())?;
-    draft.keep()?;
+    let mut locked = Locked::new(path, how)?;
+    let given = change(&mut locked.image)?;
+    locked.draft()?.keep()?;
     Ok(given)
+}
+
+/// An image that is to be changed. No other run changes it meanwhile.
+pub struct Locked {
+    /// The image as it is to be.
+    pub image: Image,
+    path: PathBuf,
+    at: PathBuf,
+    file: File,
+    how: Changing,
+}
+
+impl Locked {
+    /// Waits for other runs and reads the image.
+    pub fn new(path: &Path, how: Changing) -> Result<Locked, Failure> {
+        if input::is_standard(path) {
+            return Err(Failure::usage("standard input can't be changed; give the image's file"));
+        }
+        // Through links to the file itself, so that the rename replaces it and not a link.
+        let Target::Plain(at) = Target::of(path)? else {
+            return Err(Failure::file(path, io::Error::other("it is no plain file, and can't be changed")));
+        };
+        let file = lock(path, &at, how.timeout)?;
+        let image = Image::new(read_open(&file, path, MOST)?);
+        Ok(Locked { image, path: path.to_path_buf(), at, file, how })
+    }
+
+    /// Writes the image as it is to be beside the file.
+    pub fn draft(self) -> Result<Changed, Failure> {
+        beside::remove_stale(&self.at);
+        let old = Old::open(self.file).map_err(|error| Failure::file(&self.path, error))?;
+        let mut draft = Beside::replacing(&self.at, &old, self.how.force)?;
+        draft.write(self.image.bytes())?;
+        Ok(Changed { draft, _locked: old })
+    }
+}
+
+/// A changed image beside the old one. Unless it is kept, the old one stays.
+pub struct Changed {
+    draft: Beside,
+    /// Locked until it is closed.
+    _locked: Old,
+}
+
+impl Changed {
+    /// Puts it in the old one's place.
+    pub fn keep(self) -> Result<(), Failure> {
+        self.draft.keep()
+    }
 }
 
 /// The file behind a path, locked until it is closed. Who waited for the lock may hold a file that was replaced

@@ -1,11 +1,13 @@
 //! `sj`: Akai S900, S950 and S1000 floppy images from the command line.
 //!
-//! Exit status: 0 done, 1 refused, 2 wrong usage or a file that can't be read or written.
+//! Exit status: 0 done, 1 refused, or something lost in a salvage, 2 wrong usage or a file that can't be read or written.
 #![forbid(unsafe_code)]
 
+mod akaii;
 mod arguments;
 mod beside;
 mod commands;
+mod directory;
 mod failure;
 mod folder;
 mod image_file;

@@ -48,6 +48,11 @@ pub fn warn(text: &str) {
     let _ = stderr().write_all(format!("sj: {text}\n").as_bytes()); // at once, so that two runs' lines don't mix
 }
 
+/// Writes text to standard error, where standard output is what something else is written to.
+pub fn note(text: &str) {
+    let _ = stderr().write_all(text.as_bytes()); // as above
+}
+
 /// Writes a message whose words may be long: broken into lines, but for what it is about.
 pub fn warn_wrapped(about: &str, words: &str) {
     let mut text = String::new();

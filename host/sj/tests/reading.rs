@@ -263,7 +263,7 @@ fn help_and_wrong_commands() {
     let help = folder.sj(&["--help"]).done();
     assert!(help.contains("  sj put IMAGE FILE [--name NAME] [--type T] [--replace]\n"), "{help}");
     assert!(help.contains("'#SLOT'") && !help.replace("'#", "").contains('#'), "{help}");
-    for command in ["check", "ls", "get", "put", "mv", "rm", "unpack", "pack", "program", "help"] {
+    for command in ["check", "ls", "get", "put", "mv", "rm", "salvage", "unpack", "pack", "program", "help"] {
         let said = folder.sj(&["help", command]).done();
         assert!(said.starts_with(&format!("sj {command}")) && said.contains("  --json"), "{said}");
         assert_eq!(folder.sj(&[command, "--help"]).done(), said);

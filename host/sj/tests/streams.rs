@@ -25,7 +25,7 @@ fn folder(name: &str) -> Folder {
 }
 
 /// Commands that answer on standard output.
-const ANSWERS: [&str; 19] = [
+const ANSWERS: [&str; 22] = [
     "sj check a.img",
     "sj check a.img a.img --json",
     "sj check .",
@@ -40,6 +40,9 @@ const ANSWERS: [&str; 19] = [
     "sj put a.img one --name B --type S --replace --json",
     "sj mv a.img B B --replace",
     "sj rm a.img 'B*'",
+    "sj salvage a.img --dry-run",
+    "sj salvage a.img a.img --in-place --json",
+    "sj salvage a.img -o -",
     "sj unpack sample -o -",
     "sj help",
     "sj help refusals",

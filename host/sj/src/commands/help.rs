@@ -18,7 +18,8 @@ const NOTES: [&str; 4] = [
      interrupted run may leave the copy, a hidden file .sj- and some numbers; the next run that changes the image \
      removes it. Files that are copied out are written in the same way; what an interrupted get left may be removed \
      by hand. A changed image is a new file: where it has more than one name (hard links), the others keep the old one.",
-    "Exit status: 0 done, 1 refused, 2 wrong usage or a file that can't be read or written.",
+    "Exit status: 0 done, 1 refused (salvage: something is lost), 2 wrong usage or a file that can't be read or \
+     written.",
 ];
 
 /// Tells the commands, one of them, or the refusals.

@@ -1,7 +1,7 @@
 //! The table of commands: what each is called, takes and does. The help is made of it, and a test holds the man page and the
 //! completions to it.
 
-use super::{change, check, get, help, ls, program, put, samples};
+use super::{change, check, get, help, ls, program, put, salvage, samples};
 use crate::arguments::{Arguments, Flag};
 use crate::failure::Failure;
 use crate::output;
@@ -72,6 +72,13 @@ const TIMEOUT: Flag = Flag {
     value: Some("SECONDS"),
     about: "how long to wait for another run on the image",
 };
+const MENDED: Flag =
+    Flag { name: "-o", value: Some("FILE"), about: "where to write the mended image; of several the folder" };
+const IN_PLACE: Flag = Flag { name: "--in-place", value: None, about: "mend the image's own file" };
+const DRY_RUN: Flag =
+    Flag { name: "--dry-run", value: None, about: "write nothing, tell what would be lost" };
+const FORCE_EITHER: Flag =
+    Flag { name: "--force", value: None, about: "replace what -o names; in place, as put --force" };
 const NAME: Flag = Flag { name: "--name", value: Some("NAME"), about: "the name on the disk" };
 const TYPE: Flag = Flag { name: "--type", value: Some("T"), about: "the type, a letter" };
 const REPLACE: Flag = Flag { name: "--replace", value: None, about: "take the place of a file of that name" };
@@ -91,7 +98,7 @@ const CLIP: Flag =
     Flag { name: "--clip-loops", value: None, about: "move loops and markers past the last word back to it" };
 
 /// All commands, in the help's order.
-pub const COMMANDS: [Command; 11] = [
+pub const COMMANDS: [Command; 12] = [
     Command {
         name: "check",
         usage: &["sj check IMAGE|DIR.."],
@@ -148,6 +155,23 @@ pub const COMMANDS: [Command; 11] = [
         notes: "'#0' is the file in slot 0; * and ? in a name stand for any characters and for one. On an S1000 disk small \
                 letters stand for capitals.",
         run: change::remove,
+    },
+    Command {
+        name: "salvage",
+        usage: &[
+            "sj salvage IMAGE|DIR.. --dry-run",
+            "sj salvage IMAGE|DIR.. --in-place",
+            "sj salvage IMAGE -o FILE",
+            "sj salvage IMAGE|DIR.. -o DIR",
+        ],
+        about: "Mends images that are refused by 3 to 9, and tells slot by slot what is lost",
+        flags: &[&MENDED, &IN_PLACE, &DRY_RUN, &FORCE_EITHER, &TIMEOUT],
+        notes: "One of -o, --in-place and --dry-run has to be given. A slot is dropped for the first of 4, 5, 6 or 7, and 8 that \
+                applies, where only kept lower slots count for 5 and 8; what is kept reads as its own chain says. An \
+                accepted image is left as it was, and written by -o alone. Exit status: 0 nothing is lost, 1 something is, \
+                2 an image is refused by 1 or 2, or can't be read or written. --quiet tells losses and failures only; with \
+                -o - the statement is on standard error.",
+        run: salvage::run,
     },
     Command {
         name: "unpack",

@@ -1,7 +1,7 @@
 //! A sample's header, whichever sampler's: its fields, and the markers that must lie within the words.
 
 use crate::failure::counting;
-use crate::select;
+use crate::{akaii, select};
 use skilletjay::{Kind, sample};
 
 /// The header of a sample file that the library accepts.
@@ -21,9 +21,6 @@ struct Fields {
     end: usize,
     rate: usize,
 }
-
-/// AKAII's characters in the order of their codes.
-const AKAII: &[u8; 41] = b"0123456789 ABCDEFGHIJKLMNOPQRSTUVWXYZ#+-.";
 
 impl Header {
     /// The header of a file.
@@ -93,7 +90,7 @@ impl Header {
         let (at, name) = (self.fields().name, select::folded(self.kind, name));
         let code = |byte: u8| match self.kind {
             Kind::S900 => byte,
-            Kind::S1000 => AKAII.iter().position(|&known| known == byte).unwrap_or(0) as u8,
+            Kind::S1000 => akaii::code_of(byte).unwrap_or(0),
         };
         let codes: Vec<u8> =
             self.kind.padded(&name).bytes().take(self.kind.name_length()).map(code).collect();
