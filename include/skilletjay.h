@@ -18,10 +18,10 @@
 #include <stddef.h>
 #include <stdint.h>
 
-#define SJ_VERSION "0.4.1"
+#define SJ_VERSION "0.4.2"
 #define SJ_VERSION_MAJOR 0
 #define SJ_VERSION_MINOR 4
-#define SJ_VERSION_PATCH 1
+#define SJ_VERSION_PATCH 2
 
 #ifdef __cplusplus
 extern "C" {
