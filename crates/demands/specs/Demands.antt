@@ -415,6 +415,13 @@ salvage-done = salvaged.salvage-done
 pub salvage-accepted : (k : Kind) (d : Density) (img : List ℕ) → knownOf img ≡ Disk k d → checkOf (salvageImage (layoutOf k d) img) ≡ acceptedAs k d (salvageImage (layoutOf k d) img)
 salvage-accepted = salvaged.salvage-accepted
 
+-- The report: a byte for each slot, and those past the slots are kept.
+pub report-said : (k : Kind) (d : Density) (img report : List ℕ) (s : ℕ) → let l = layoutOf k d in s < l .slots → getD (reportAfter l img report) s 0 ≡ reportOf l (viewOf l (bytes img)) s
+report-said k d = salvages.report-said (layoutOf k d)
+
+pub report-past : (k : Kind) (d : Density) (img report : List ℕ) (i : ℕ) → let l = layoutOf k d in l .slots ≤ i → getD (reportAfter l img report) i 0 ≡ getD report i 0
+report-past k d = salvages.report-past (layoutOf k d)
+
 -- Slot by slot the number is the first that applies, names and chains compared with kept lower slots, chains judged on the map as given.
 pub report-exactly : (k : Kind) (d : Density) (v : View) (s : ℕ) → s < layoutOf k d .slots → (n : ℕ) → (reportOf (layoutOf k d) v s ≡ n) ↔ Said (layoutOf k d) (diskAfter (layoutOf k d) v s) s n
 report-exactly k d = said.report-exactly (layoutOf k d) (layout-right k d)

@@ -3,19 +3,21 @@
 -- From the disk mended, byte by byte and block by block. Assumes nothing.
 use mathlib.Core.Path.{_≡_, refl, sym, ap, _∙_}
 use mathlib.Core.Bool.{Bool, true, false, not}
-use mathlib.Core.List.{List, []}
+use mathlib.Core.List.{List, [], _++_}
 use mathlib.Core.Option.{none, some}
 use mathlib.Core.Logic.{_↔_, _⊎_, inl, inr}
 use Prim.Native.Nat.{ℕ, _+_, _-_, _≤_, _<_}
 use native.Mathlib.Decide.{ℕ-discrete}
 use native.Mathlib.Omega.{arith}
 use lib.Dec.{eqb}
-use lib.ListN.{length}
+use lib.ListN.{length, drop, getD, length-append, length-drop, List·getD-append}
+use lib.Seq.{getD-append-add, getD-drop}
 use borrow.Author.Tests.{eq-eqb, ne-eqb}
 use Rattle.laws.specs.Truth.{pick}
 use Rattle.laws.specs.Scan.{count}
 use Rattle.laws.specs.Lemmas.Scan.{those-none, count-cong, count-never, count-append, count-split}
-use Rattle.laws.specs.Reader.{bytes}
+use Rattle.laws.specs.Reader.{bytes, tab}
+use Rattle.laws.specs.Lemmas.Reader.{length-tab, getD-tab}
 use Rattle.laws.specs.Member.{In}
 use Rattle.layout.specs.declared.Layout.{Layout}
 use Rattle.layout.specs.Layouts.{imageLength, slotOffset, blockOffset, mapOffset}
@@ -29,11 +31,41 @@ use Rattle.view.specs.Broken.{system, owner}
 use Rattle.view.specs.Exactly.{valid-quiet}
 use Rattle.image.specs.Image.{identityAt, viewOf, filesIn, DiskRules}
 use Rattle.image.specs.Outside.{InEntry, InMap, Among, apart}
-use Rattle.salvage.specs.Salvage.{noEntry, drops, reportOf, survivors, eraseSlots, droppedSlots, wrongSystem, strayBlocks, salvageImage, mapChanges}
+use Rattle.salvage.specs.Salvage.{noEntry, drops, reportOf, survivors, eraseSlots, droppedSlots, wrongSystem, strayBlocks, salvageImage, mapChanges, reportAfter}
 use Rattle.salvage.specs.Lemmas.Judged.{kept-entry, kept-case, dropped-entry, gone-entry}
 use Rattle.salvage.specs.Lemmas.Survivors.{mended-valid, mended-kept, mended-gone, valid-entries, valid-report}
 use Rattle.salvage.specs.Lemmas.Erased.{erase-off}
 use Rattle.salvage.specs.Lemmas.Run.{dropped-slot, wrong-block, stray-block, run-length, run-identity, run-mended, map-system, differs, differs-system, differs-between, differs-data}
+
+-- ---- the report
+
+module _ (l : Layout) (img report : List ℕ) where
+  abbrev f : ℕ → ℕ
+  f = reportOf l (viewOf l (bytes img))
+
+  abbrev n : ℕ
+  n = l .slots
+
+  -- a byte for each slot
+  pub report-said : (s : ℕ) → s < l .slots → getD (reportAfter l img report) s 0 ≡ reportOf l (viewOf l (bytes img)) s
+  unfolding reportAfter
+  report-said s h =
+      let z : 0 + s ≡ s = omega arith in List·getD-append (tab f 0 n) (drop n report) 0 s (omega (arith, length-tab f 0 n)) ∙ getD-tab f 0 n s h ∙ ap f z
+
+  -- and those past the slots are kept
+  pub report-past : (i : ℕ) → l .slots ≤ i → getD (reportAfter l img report) i 0 ≡ getD report i 0
+  unfolding reportAfter
+  report-past i h =
+      let z : n + (i - n) ≡ i = omega arith in
+      ap (λ (x : ℕ). getD (tab f 0 n ++ drop n report) x 0) (sym z)
+      ∙ ap (λ (x : ℕ). getD (tab f 0 n ++ drop n report) (x + (i - n)) 0) (sym (length-tab f 0 n))
+      ∙ getD-append-add (tab f 0 n) (drop n report) (i - n) 0
+      ∙ getD-drop n report (i - n) 0
+      ∙ ap (λ (x : ℕ). getD report x 0) z
+
+  pub report-length : l .slots ≤ length report → length (reportAfter l img report) ≡ length report
+  unfolding reportAfter
+  report-length h = length-append (tab f 0 n) (drop n report) ∙ omega (arith, length-tab f 0 n, length-drop n report)
 
 -- ---- bytes
 

@@ -21,7 +21,7 @@ returns c =
     let j = e .before .before .before .before .before in
     let p = j .before .before .before .before .before .before .pre in
     let w =
-    passes _ (p .0) _ _ (p .1) (p .2) (j .judge .ensures .0) (j .judge .ensures .1) (e .erase-dropped .ensures) (r .restore-system .ensures .0) (r .restore-system .ensures .1) (f .free-strays .ensures .0)
+    passes _ (p .0) _ _ (p .1) (j .judge .ensures .0) (j .judge .ensures .1) (e .erase-dropped .ensures) (r .restore-system .ensures .0) (r .restore-system .ensures .1) (f .free-strays .ensures .0)
     (f .free-strays .ensures .1) in
     (w .0, (w .1, w .2))
 

@@ -20,15 +20,14 @@ use Rattle.view.specs.Rules.{badSystem, stray}
 use Rattle.image.specs.Image.{viewOf}
 use Rattle.salvage.specs.Salvage.{drops, reportOf, survivors, eraseSlots, droppedSlots, wrongSystem, strayBlocks, salvageImage, mapChanges, reportAfter}
 use Rattle.salvage.specs.Lemmas.Erased.{erase-map}
-use Rattle.salvage.specs.Theorems.{salvage-count}
+use Rattle.salvage.specs.Theorems.{report-said, salvage-count}
 use Rattle.mend.specs.Steps.{isDropped, isLost}
-use Rattle.mend.specs.Lemmas.Verdicts.{said-at}
 
 -- two counts are no more than their ranges have
 pub counts-few : (f g : ℕ → Bool) (i a j n : ℕ) {p q : ℕ} → p ≡ count f i a → q ≡ count g j n → p + q ≤ a + n
 counts-few f g i a j n e h = omega (arith, count-split f i a, count-split g j n)
 
-module _ (l : Layout) (right : LayoutRight l) (img lent : List ℕ) (whole : length img ≡ imageLength l) (room : l .slots ≤ length lent) where
+module _ (l : Layout) (right : LayoutRight l) (img lent : List ℕ) (whole : length img ≡ imageLength l) where
   abbrev v : View
   v = viewOf l (bytes img)
 
@@ -38,9 +37,9 @@ module _ (l : Layout) (right : LayoutRight l) (img lent : List ℕ) (whole : len
       (lost : three ≡ setAll two (those (isLost (mapAt (bytes two)) marks) (l .first) (l .blocks - l .first)) 0)
       (strays : freed ≡ count (isLost (mapAt (bytes two)) marks) (l .first) (l .blocks - l .first)) where
     dropped : those (isDropped report) 0 (l .slots) ≡ droppedSlots l v
-    unfolding droppedSlots reportAfter
+    unfolding droppedSlots
     dropped =
-        those-cong (isDropped report) (λ s. drops (reportOf l v s)) 0 (l .slots) (λ s p q. rw said (ap drops (said-at (reportOf l v) lent (l .slots) room s (omega arith))))
+        those-cong (isDropped report) (λ s. drops (reportOf l v s)) 0 (l .slots) (λ s p q. rw said (ap drops (report-said l img lent s (omega arith))))
 
     one-is : one ≡ eraseSlots l img (droppedSlots l v)
     one-is = erased ∙ ap (eraseSlots l img) dropped

@@ -214,7 +214,3 @@ module _ (f : ℕ → ℕ) (lent : List ℕ) where
           ∙ getD-append-add (tab f 0 n) (drop n lent) (t - n) 0
           ∙ getD-drop n lent (t - n) 0
           ∙ ap (λ (x : ℕ). getD lent x 0) z)
-
-  -- what is said in a whole report
-  pub said-at : (n : ℕ) → n ≤ length lent → (t : ℕ) → t < n → getD (tab f 0 n ++ drop n lent) t 0 ≡ f t
-  said-at n h t k = List·getD-append (tab f 0 n) (drop n lent) 0 t (omega (arith, length-tab f 0 n)) ∙ getD-tab f 0 n t k ∙ ap f (omega arith)
