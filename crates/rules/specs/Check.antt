@@ -50,6 +50,7 @@ unfoldable pub kindOf : Density → (ℕ → ℕ) → Option Kind
 unfolding hasIdentity
 kindOf d b = pick (hasIdentity (layoutOf S900 d) b) (some S900) (pick (hasIdentity (layoutOf S1000 d) b) (some S1000) none)
 
+-- 2: the kind whose identity every slot has.
 unfoldable pub knownKind : Density → (ℕ → ℕ) → Known
 unfolding kindOf
 knownKind d b = orUnknown (kindOf d b) 2 (λ k. Disk k d)
