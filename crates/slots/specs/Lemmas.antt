@@ -1,2 +1,3 @@
 -- Lemmas that only proofs use.
 pub mod Keys
+pub mod Hashes

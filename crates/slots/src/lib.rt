@@ -5,14 +5,15 @@ ghost use mathlib.Core.Bool.{not};
 ghost use Prim.Native.Nat.{_+_, _≤_, _<_};
 ghost use lib.ListN.{length};
 ghost use Rattle.laws.specs.Reader.{bytes};
-ghost use Rattle.laws.specs.Scan.{lowest};
+ghost use Rattle.laws.specs.Scan.{lowest, any};
 ghost use Rattle.layout.specs.Layouts.{slotOffset};
 ghost use Rattle.layout.specs.Right.{LayoutRight};
 ghost use Rattle.view.specs.Disk.{used};
-ghost use Rattle.view.specs.Rules.{malformed, repeated};
+ghost use Rattle.view.specs.Rules.{malformed, hasNameOf, repeated};
 ghost use Rattle.image.specs.Image.{viewOf};
 ghost use Rattle.rules.specs.Check.{hasIdentity, usedCount};
 ghost use Rattle.slots.specs.Keys.{Key, hasKeys};
+ghost use Rattle.slots.specs.Hashes.{hasHashOf, highest, Hash, Tops, Lowers, Turn};
 
 // Whether a slot is used.
 pub fn is_used(head: &[u8], layout: layout::Layout, slot: usize) -> bool
@@ -162,8 +163,8 @@ fn is_repeated(head: &[u8], layout: layout::Layout, slot: usize) -> bool
     false
 }
 
-// The lowest slot whose name stands in a lower used slot (refusal 5).
-pub fn name_fault(head: &[u8], layout: layout::Layout) -> laws::Lowest
+// The lowest slot whose name stands in a lower used slot, each compared with all lower ones.
+fn pair_fault(head: &[u8], layout: layout::Layout) -> laws::Lowest
     requires { ⌜ LayoutRight layout × (slotOffset layout (layout .slots) ≤ length (now head)) ⌝ }
     ensures { λ r. ⌜ r ≡ lowest (repeated layout (viewOf layout (bytes (now (head .entry))))) 0 (layout .slots) ⌝ }
 {
@@ -176,6 +177,119 @@ pub fn name_fault(head: &[u8], layout: layout::Layout) -> laws::Lowest
         slot += 1;
     }
     laws::Lowest::Nowhere
+}
+
+// Half a key's bytes make a number below this.
+const HALF: usize = 4294967296;
+
+// A hash of a slot's name: the halves of both keys, so that the sum fits and one division does; by a prime, so that every byte counts.
+fn hash_of(head: &[u8], layout: layout::Layout, slot: usize) -> usize
+    requires { ⌜ slotOffset layout slot + 24 ≤ length (now head) ⌝ }
+    ensures { λ r. ⌜ Hash layout (bytes (now (head .entry))) slot r ⌝ }
+{
+    let at = layout.directory + 24 * slot;
+    let low = key(head, at);
+    let high = key(head, at + 8);
+    (low % HALF + 31 * (low / HALF) + 961 * (high % HALF) + 29791 * (high / HALF)) % 1009
+}
+
+// An element of the table as a number.
+fn wide(value: u16) -> usize
+    ensures { λ r. ⌜ r ≡ value ⌝ }
+{
+    value as usize
+}
+
+// Whether a slot's name stands in a lower used slot: only those with its hash are compared, from the highest of them on downwards.
+fn stands_below(
+    head: &[u8],
+    layout: layout::Layout,
+    lowers: &[u16; 512],
+    top: usize,
+    slot: usize,
+) -> bool
+    requires { ⌜ (slotOffset layout slot + 24 ≤ length (now head)) × (slot < 512) × Lowers layout (bytes (now head)) (now lowers) slot × (top ≡ highest (hasHashOf layout (bytes (now head)) slot) slot) ⌝ }
+    ensures { λ r. ⌜ r ≡ any (hasNameOf layout (viewOf layout (bytes (now (head .entry)))) slot) 0 slot ⌝ }
+{
+    let at = layout.directory + 24 * slot;
+    let low = key(head, at);
+    let high = key(head, at + 8);
+    let mut next = top;
+    while next != 0 {
+        let other = next - 1;
+        if has_keys(head, layout, other, low, high) {
+            return true;
+        }
+        next = wide(lowers[other]);
+    }
+    false
+}
+
+// Whether a slot is used and its name stands in a lower used slot. The table takes the slot.
+fn repeats(
+    head: &[u8],
+    layout: layout::Layout,
+    tops: &mut [u16; 1009],
+    lowers: &mut [u16; 512],
+    slot: usize,
+) -> bool
+    requires { ⌜ (slotOffset layout slot + 24 ≤ length (now head)) × (slot < 512) × Tops layout (bytes (now head)) (now tops) slot × Lowers layout (bytes (now head)) (now lowers) slot ⌝ }
+    ensures { λ r. ⌜ Turn layout (bytes (now (head .entry))) (now (tops .exit)) (now (lowers .exit)) slot r ⌝ }
+{
+    if !is_used(head, layout, slot) {
+        return false;
+    }
+    let hash = hash_of(head, layout, slot);
+    let top = tops[hash];
+    let found = stands_below(head, layout, lowers, wide(top), slot);
+    lowers[slot] = top;
+    tops[hash] = (slot + 1) as u16;
+    found
+}
+
+// The lowest slot whose name stands in a lower used slot, by a table of hashes: for each hash the highest slot so far, for each slot the next lower one
+// with its hash. Both stand there plus 1; 0 is none.
+fn hash_fault(head: &[u8], layout: layout::Layout) -> laws::Lowest
+    requires { ⌜ LayoutRight layout × (slotOffset layout (layout .slots) ≤ length (now head)) × (layout .slots ≤ 512) ⌝ }
+    ensures { λ r. ⌜ r ≡ lowest (repeated layout (viewOf layout (bytes (now (head .entry))))) 0 (layout .slots) ⌝ }
+{
+    let slots = layout.slots;
+    let mut tops = [0u16; 1009];
+    let mut lowers = [0u16; 512];
+    let mut slot = 0;
+    while slot < slots {
+        if repeats(head, layout, &mut tops, &mut lowers, slot) {
+            return laws::Lowest::At(slot);
+        }
+        slot += 1;
+    }
+    laws::Lowest::Nowhere
+}
+
+// Whether a directory of up to 64 slots has few files, as far as slot 15 tells: slots are filled from the lowest on. Only time hangs on it.
+fn seems_sparse(head: &[u8], layout: layout::Layout) -> bool
+    requires { ⌜ slotOffset layout (layout .slots) ≤ length (now head) ⌝ }
+{
+    let slots = layout.slots;
+    if slots > 64 {
+        return false;
+    }
+    if slots <= 15 {
+        return true;
+    }
+    !is_used(head, layout, 15)
+}
+
+// The lowest slot whose name stands in a lower used slot (refusal 5). The table holds 512 slots; a few files are compared sooner than it is cleared.
+pub fn name_fault(head: &[u8], layout: layout::Layout) -> laws::Lowest
+    requires { ⌜ LayoutRight layout × (slotOffset layout (layout .slots) ≤ length (now head)) ⌝ }
+    ensures { λ r. ⌜ r ≡ lowest (repeated layout (viewOf layout (bytes (now (head .entry))))) 0 (layout .slots) ⌝ }
+{
+    let slots = layout.slots;
+    if slots > 512 || seems_sparse(head, layout) {
+        return pair_fault(head, layout);
+    }
+    hash_fault(head, layout)
 }
 
 // The lowest empty slot.

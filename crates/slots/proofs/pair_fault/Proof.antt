@@ -1,4 +1,4 @@
--- `slots::name_fault` meets its contract: the lowest slot of those left with a lower slot's name is that of all.
+-- `slots::pair_fault` meets its contract: the lowest slot of those left with a lower slot's name is that of all.
 -- One search, by its laws. Assumes nothing.
 use Prim.Native.Nat.{_-_}
 use native.Mathlib.Omega.{arith}
@@ -7,8 +7,8 @@ use Rattle.laws.specs.Reader.{bytes}
 use Rattle.view.specs.Rules.{repeated}
 use Rattle.image.specs.Image.{viewOf}
 use Rattle.laws.specs.Lemmas.Search.{Searched, searched-none, searched-found, searched-more, searched-all}
-use Rattle.slots.proofs.name_fault.Statement.{statement}
-use Rattle.slots.proofs.name_fault.Tie as tie
+use Rattle.slots.proofs.pair_fault.Statement.{statement}
+use Rattle.slots.proofs.pair_fault.Tie as tie
 
 abbrev Inv-loop : tie.InvT-loop
 Inv-loop head layout end slot₀ slot = Searched (repeated layout (viewOf layout (bytes head))) end slot
@@ -28,8 +28,8 @@ loop-again c = searched-more _ _ _ (c .before .before .before .loop .inv) (omega
 returns-2 : tie.Need-returns-2 Inv-loop μ-loop
 returns-2 c = searched-all _ _ _ (c .before .loop .inv) (omega arith)
 
-pub name-fault-spec : {M : Type 1} → statement M
-name-fault-spec =
+pub pair-fault-spec : {M : Type 1} → statement M
+pair-fault-spec =
     tie.close
     (tie.spec
     Inv-loop
