@@ -20,13 +20,13 @@ fn part(out: &[u8], count: usize) {
 }
 
 // What was put into an output.
-fn first(out: &[u8; 4096], count: usize) {
+fn first(out: &[u8; 24576], count: usize) {
     part(out, count);
 }
 
 // A refusal, without its line's end.
 pub(crate) fn refusal(answer: laws::Refusal) {
-    let mut out = io::buffer();
+    let mut out = [0u8; 24576];
     let count = listing::put_refused(answer, &mut out, 0);
     first(&out, count);
 }
@@ -39,7 +39,7 @@ pub(crate) fn refused(answer: laws::Refusal) {
 
 // The line of the check's answer.
 pub(crate) fn checked(answer: rules::Checked) {
-    let mut out = io::buffer();
+    let mut out = [0u8; 24576];
     let count = listing::put_checked(answer, &mut out, 0);
     first(&out, count);
     line_end();
@@ -48,7 +48,7 @@ pub(crate) fn checked(answer: rules::Checked) {
 // A file's line; a name has at most twelve letters.
 pub(crate) fn file(letters: usize, letter: u8, size: usize, name: [u8; 12]) {
     if letters <= 12 {
-        let mut out = io::buffer();
+        let mut out = [0u8; 24576];
         let count = listing::put_file(letter, size, &name[0..letters], &mut out, 0);
         first(&out, count);
     }

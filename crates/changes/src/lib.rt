@@ -30,15 +30,24 @@ fn write_blocks(image: &mut [u8], layout: layout::Layout, chosen: &[u16], conten
     }
 }
 
-// Writes a slot's 22 bytes before its identity.
-fn write_entry(image: &mut [u8], at: usize, area: [u8; 16], letter: u8, size: usize, start: usize)
-    requires { ⌜ at + 22 ≤ length (now image) ⌝ }
-    ensures { λ _. ⌜ now (image .exit) ≡ setEntry (now (image .entry)) at (entryWith area letter size start) ⌝ }
+// Writes a slot's 24 bytes.
+fn write_entry(
+    image: &mut [u8],
+    at: usize,
+    area: [u8; 16],
+    letter: u8,
+    size: usize,
+    start: usize,
+    identity: usize,
+)
+    requires { ⌜ at + 24 ≤ length (now image) ⌝ }
+    ensures { λ _. ⌜ now (image .exit) ≡ setEntry (now (image .entry)) at (entryWith area letter size start identity) ⌝ }
 {
     blocks::copy_part(&area, 0, image, at, 16);
     image[at + 16] = letter;
     blocks::store3(image, at + 17, size);
     blocks::store2(image, at + 20, start);
+    blocks::store2(image, at + 22, identity);
 }
 
 // Puts a file whose name has this area into a slot: its content in the lowest free blocks, in rising order.
@@ -63,7 +72,15 @@ pub fn put_slot(
     write_blocks(image, layout, chosen, content);
     map::link_blocks(image, layout, chosen);
     let start = map::block_of(chosen, 0, end);
-    write_entry(image, at, area, letter, content.len(), start);
+    write_entry(
+        image,
+        at,
+        area,
+        letter,
+        content.len(),
+        start,
+        layout.identity,
+    );
 }
 
 // Removes a used slot's file: zeros for all of the slot but its identity, its chain's blocks free.

@@ -8,18 +8,19 @@
 --   lastBlock (rules/specs/Mark), Other and Reaches (map/specs/Values): request one;
 --   akaiiOf, asciiOf and capital (names/specs/Akaii), capitals (names/specs/Names), keptFile (record/specs/Record), inCapitals (record/specs/Spelling): request two;
 --   costOf, blocksHolding and holds (pages/specs/Cost), costIn (calls/specs/Metered): request three;
---   verdict to salvageImage and mapChanges (salvage/specs/Salvage), Said (salvage/specs/Said), knownOf and salvageOf (rules/specs/Check): request four.
+--   verdict to salvageImage and mapChanges (salvage/specs/Salvage), Said (salvage/specs/Said), knownOf and salvageOf (rules/specs/Check): request four;
+--   PassedOver, InUse and OfKind (image/specs/Image), SameButFirst and Unseen (rules/specs/Unread), letterOf (listing/specs/Listing): request five.
 -- That the code does so is what each function's contract says, and those are proved with it. Assumes nothing.
 use mathlib.Core.Path.{_≡_, refl}
 use mathlib.Core.Bool.{true, false}
-use mathlib.Core.List.{List, [], _++_, map}
+use mathlib.Core.List.{List, [], _∷_, _++_, map}
 use mathlib.Core.Option.{none, some}
 use mathlib.Core.Logic.{_↔_, _⊎_}
 use Prim.Native.Nat.{ℕ, _+_, _-_, _*_, _/_, _≤_, _<_, min}
 use native.Mathlib.Omega.{arith}
 use lib.Dec.{eqb}
 use lib.IntN.{ℤ}
-use lib.ListN.{length, getD, take, drop}
+use lib.ListN.{length, getD, take, drop, replicate}
 use lib.Seq.{sets}
 use Rattle.laws.specs.declared.Lowest.the-variants.{At, Nowhere}
 use Rattle.laws.specs.declared.Refusal.{Refusal}
@@ -32,27 +33,28 @@ use Rattle.laws.specs.Splice.{splice, part}
 use Rattle.laws.specs.Reader.{bytes, tab}
 use Rattle.laws.specs.Member.{In}
 use Rattle.layout.specs.declared.Kind.{Kind}
-use Rattle.layout.specs.declared.Kind.the-variants.{S900, S1000}
+use Rattle.layout.specs.declared.Kind.the-variants.{S900, S1000, S3000}
 use Rattle.layout.specs.declared.Density.{Density}
+use Rattle.layout.specs.declared.Density.the-variants.{Low, High}
 use Rattle.layout.specs.declared.Layout.{Layout}
-use Rattle.layout.specs.Layouts.{layoutOf, lengthOf, blocksOf, firstOf, mapOffset, blockOffset}
+use Rattle.layout.specs.Layouts.{layoutOf, lengthOf, dataBlocks, slotOffset, mapOffset, blockOffset}
 use Rattle.layout.specs.Right as right
 use Rattle.layout.specs.Right.{layout-right}
 use Rattle.blocks.specs.Blocks.{blocksFor}
 use Rattle.names.specs.declared.Converted.the-variants.{Byte}
 use Rattle.names.specs.Akaii.{akaiiOf, asciiOf, capital}
 use Rattle.names.specs.Akaii as akaii
-use Rattle.names.specs.Names.{legalName, legalType, areaOf, nameOf, capitals}
+use Rattle.names.specs.Names.{toDisk, padding, legalName, legalType, legalArea, areaOf, nameOf, capitals}
 use Rattle.names.specs.NameLaws as names
 use Rattle.map.specs.Map.{mapAt, freeCount, Data, chain, Astray, Miscounted}
 use Rattle.map.specs.Values as values
 use Rattle.map.specs.Values.{Other, Reaches}
-use Rattle.view.specs.Disk.{View, File, owned, contentOf, takes, Owns}
+use Rattle.view.specs.Disk.{View, Entry, File, formed, owned, contentOf, takes, Owns}
 use Rattle.view.specs.Rules.{badSystem, stray}
 use Rattle.view.specs.Broken.{Breaks, owner}
-use Rattle.image.specs.Image.{viewOf, filesIn, DiskRules, removeImage}
-use Rattle.image.specs.Outside.{InEntry, InMap}
-use Rattle.salvage.specs.Salvage.{noEntry, drops, diskAfter, reportOf, survivors, salvageImage, mapChanges, reportAfter}
+use Rattle.image.specs.Image.{viewOf, filesIn, PassedOver, InUse, OfKind, DiskRules, erased, removeImage, newEntry}
+use Rattle.image.specs.Outside.{Within, InEntry, InMap}
+use Rattle.salvage.specs.Salvage.{drops, diskAfter, reportOf, survivors, salvageImage, mapChanges, reportAfter}
 use Rattle.salvage.specs.Said as said
 use Rattle.salvage.specs.Said.{Said}
 use Rattle.salvage.specs.Theorems as salvages
@@ -65,7 +67,7 @@ use Rattle.rules.specs.declared.Checked.the-variants.{Accepted, Refused}
 use Rattle.rules.specs.declared.Known.the-variants.{Disk, Unknown}
 use Rattle.rules.specs.Check.{knownOf, checkOf, lent, came, salvageOf, callOf, Made}
 use Rattle.rules.specs.Accepted as accepted
-use Rattle.rules.specs.Accepted.{acceptedAs, Identified}
+use Rattle.rules.specs.Accepted.{acceptedAs}
 use Rattle.rules.specs.Exactly as exactly
 use Rattle.rules.specs.Exactly.{Owed}
 use Rattle.rules.specs.Head as head
@@ -178,9 +180,9 @@ accepted-counts = accepted.accepted-counts
 pub refused-exactly : (img : List ℕ) (r : Refusal) → (checkOf img ≡ Refused r) ↔ Owed img r
 refused-exactly = exactly.refused-exactly
 
--- The check reads length, directory and map alone.
-pub check-reads : (x y : List ℕ) → length y ≡ length x
-    → ((k : Kind) (d : Density) (i : ℕ) → length x ≡ lengthOf d → Read (layoutOf k d) i → bytes y i ≡ bytes x i) → checkOf y ≡ checkOf x
+-- The check reads length, directory and map alone: of the two directories that may be there the one in use, and byte 16, which tells it.
+pub check-reads : (x y : List ℕ) → length y ≡ length x → bytes y 16 ≡ bytes x 16
+    → ((k : Kind) (d : Density) (i : ℕ) → length x ≡ lengthOf d → InUse (layoutOf k d) (bytes x) → Read (layoutOf k d) i → bytes y i ≡ bytes x i) → checkOf y ≡ checkOf x
 check-reads = head.check-reads
 
 -- Pages are the file's bytes: as many as the output holds and the file has left; the end is reached exactly if none is left after them.
@@ -223,8 +225,11 @@ program-lowest = programs.program-lowest
 
 -- Before the first call and after each: free blocks and files make the data area.
 pub free-blocks : (k : Kind) (d : Density) (f n : ℕ) (img : List ℕ) → checkOf img ≡ Accepted k d f n
-    → (n ≡ freeCount (layoutOf k d) (mapAt (bytes img))) × (n + total (λ s. takes (filesIn (layoutOf k d) img s)) 0 (layoutOf k d .slots) ≡ blocksOf d - firstOf d)
+    → (n ≡ freeCount (layoutOf k d) (mapAt (bytes img))) × (n + total (λ s. takes (filesIn (layoutOf k d) img s)) 0 (layoutOf k d .slots) ≡ dataBlocks (layoutOf k d))
 free-blocks = demand.free-blocks
+
+pub data-areas : (dataBlocks (layoutOf S900 Low) ≡ 796) × (dataBlocks (layoutOf S900 High) ≡ 1595) × (dataBlocks (layoutOf S1000 Low) ≡ 796) × (dataBlocks (layoutOf S1000 High) ≡ 1595) × (dataBlocks (layoutOf S3000 High) ≡ 1583)
+data-areas = (refl, refl, refl, refl, refl)
 
 -- Whatever calls are made, each on the image that the last one left: after each of them answer, output, image and files are the record's, files that
 -- it doesn't name stay, the free blocks are right, a put has room or not, and downloads join (`Kept`, one field each).
@@ -263,9 +268,9 @@ result-tells = sequence.told-made
 pub result-refused : (img : List ℕ) (c : Call) (r : Refusal) → callOf img c .answer .refusal ≡ some r → toldOf img c ≡ refusedTurn img c r
 result-refused = sequence.told-refusal
 
--- ---- The listing program's text: that of the check's and list's answers, though it keeps the first 5,120 bytes alone
+-- ---- The listing program's text: that of the check's and list's answers, though it keeps the first 17,408 bytes alone
 
-pub listing-lines : (img : List ℕ) → linesOf (take 5120 img) (length img) ≡ listingOf (callOf img check .answer) (λ s. callOf img (list s) .answer)
+pub listing-lines : (img : List ℕ) → linesOf (take 17408 img) (length img) ≡ listingOf (callOf img check .answer) (λ s. callOf img (list s) .answer)
 listing-lines = listings.lines-of
 
 -- ---- The worked disks and words P1 to P13
@@ -396,7 +401,7 @@ blocks-between = cost.blocks-between
 pub salvage-any : (img report : List ℕ) → callOf img (salvage report) ≡ salvageOf img report
 salvage-any = salvaged.salvage-call
 
-pub known-exactly : (img : List ℕ) (k : Kind) (d : Density) → (knownOf img ≡ Disk k d) ↔ ((length img ≡ lengthOf d) × Identified k d (bytes img))
+pub known-exactly : (img : List ℕ) (k : Kind) (d : Density) → (knownOf img ≡ Disk k d) ↔ ((length img ≡ lengthOf d) × OfKind (layoutOf k d) (bytes img))
 known-exactly img k d = (accepted.known-is (length img) (bytes img) k d, λ p. accepted.is-known (length img) (bytes img) k d (p .0) (p .1))
 
 pub unknown-refused : (img : List ℕ) (r : Refusal) → knownOf img ≡ Unknown r → checkOf img ≡ Refused r
@@ -448,7 +453,7 @@ module _ (k : Kind) (d : Density) (img : List ℕ) (known : knownOf img ≡ Disk
   kept-exactly = salvages.kept-exactly l (layout-right k d) img (salvaged.known-size k d img known)
 
   -- A dropped slot is as remove leaves it.
-  pub salvage-erased : (s : ℕ) → s < l .slots → drops (reportOf l given s) ≡ true → viewOf l (bytes mended) .entry s ≡ noEntry
+  pub salvage-erased : (s : ℕ) → s < l .slots → drops (reportOf l given s) ≡ true → viewOf l (bytes mended) .entry s ≡ erased (given .entry s)
   salvage-erased = salvages.salvage-erased l (layout-right k d) img (salvaged.known-size k d img known)
 
   -- System values are restored, kept chains' map values stay, those of every other data block are 0; S900 system values, which nobody reads, stay.

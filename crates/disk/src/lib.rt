@@ -4,11 +4,13 @@ ghost use mathlib.Core.Path.{_≡_};
 ghost use Prim.Native.Nat.{_≤_};
 ghost use lib.ListN.{length};
 ghost use Rattle.laws.specs.Reader.{bytes};
-ghost use Rattle.layout.specs.Layouts.{blockOffset};
+ghost use Rattle.layout.specs.Layouts.{headLength, blockOffset};
 ghost use Rattle.layout.specs.Right.{LayoutRight};
 ghost use Rattle.view.specs.Rules.{rules};
 ghost use Rattle.image.specs.Image.{viewOf};
-ghost use Rattle.rules.specs.Check.{knownKind, knownStart, checkAs, checkOf, checkStart};
+ghost use Rattle.laws.specs.Refusals.{refusalAt};
+ghost use Rattle.rules.specs.declared.Known.the-variants.{Disk, Unknown};
+ghost use Rattle.rules.specs.Check.{orUnknown, secondKind, knownKind, knownStart, checkAs, checkOf, checkStart};
 
 // Refusals 3 to 9 of a layout.
 fn disk_rules(head: &[u8], layout: layout::Layout) -> view::Ruled
@@ -41,7 +43,7 @@ fn disk_rules(head: &[u8], layout: layout::Layout) -> view::Ruled
 
 // The check of an image of a known kind and density.
 fn check_as(head: &[u8], kind: layout::Kind, density: layout::Density) -> rules::Checked
-    requires { ⌜ 5120 ≤ length (now head) ⌝ }
+    requires { ⌜ headLength ≤ length (now head) ⌝ }
     ensures { λ r. ⌜ r ≡ checkAs kind density (bytes (now (head .entry))) ⌝ }
 {
     let layout = layout::layout_of(kind, density);
@@ -61,11 +63,37 @@ fn check_as(head: &[u8], kind: layout::Kind, density: layout::Density) -> rules:
     }
 }
 
-// The kind of an image of a known density: 2 if its slots' identities are of none.
+// Refusal 2.
+fn no_kind() -> rules::Known
+    ensures { λ r. ⌜ r ≡ Unknown (refusalAt 2 0) ⌝ }
+{
+    rules::Known::Unknown(laws::Refusal {
+        number: 2,
+        place: 0,
+    })
+}
+
+// The kind of an image whose first directory is passed over: 2 at low density.
+fn second_kind(density: layout::Density) -> rules::Known
+    ensures { λ r. ⌜ r ≡ orUnknown (secondKind density) 2 (λ k. Disk k density) ⌝ }
+{
+    match density {
+        layout::Density::Low => no_kind(),
+        layout::Density::High => rules::Known::Disk {
+            kind: layout::Kind::S3000,
+            density,
+        },
+    }
+}
+
+// The kind of an image of a known density: slot 0's type tells, then the slots' identities; 2 if they are of none.
 fn known_kind(head: &[u8], density: layout::Density) -> rules::Known
-    requires { ⌜ 5120 ≤ length (now head) ⌝ }
+    requires { ⌜ headLength ≤ length (now head) ⌝ }
     ensures { λ r. ⌜ r ≡ knownKind density (bytes (now (head .entry))) ⌝ }
 {
+    if slots::is_passed_over(head) {
+        return second_kind(density);
+    }
     let s900 = layout::Kind::S900;
     if slots::has_identity(head, layout::layout_of(s900, density)) {
         return rules::Known::Disk {
@@ -80,17 +108,14 @@ fn known_kind(head: &[u8], density: layout::Density) -> rules::Known
             density,
         };
     }
-    rules::Known::Unknown(laws::Refusal {
-        number: 2,
-        place: 0,
-    })
+    no_kind()
 }
 
-// What is known of an image by its length, 1, and its slots' identities, 2. The first 5,120 bytes are at hand, or all.
+// What is known of an image by its length, 1, and its directory, 2. The first 17,408 bytes are at hand, or all.
 pub fn known(head: &[u8], length: usize) -> rules::Known
     ensures { λ r. ⌜ r ≡ knownStart (now (head .entry)) length ⌝ }
 {
-    if head.len() < 5120 {
+    if head.len() < 17408 {
         return rules::Known::Unknown(laws::Refusal {
             number: 1,
             place: 0,
@@ -110,7 +135,7 @@ pub fn known(head: &[u8], length: usize) -> rules::Known
     })
 }
 
-// The check of an image of which the first 5,120 bytes are at hand, or all, and its length.
+// The check of an image of which the first 17,408 bytes are at hand, or all, and its length.
 pub fn check_head(head: &[u8], length: usize) -> rules::Checked
     ensures { λ r. ⌜ r ≡ checkStart (now (head .entry)) length ⌝ }
 {

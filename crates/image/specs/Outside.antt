@@ -34,6 +34,10 @@ Within a n i = (a ≤ i) × (i < a + n)
 abbrev pub InEntry : Layout → ℕ → ℕ → Type 0
 InEntry l s i = Within (slotOffset l s) 22 i
 
+-- One of a slot's 24 bytes.
+abbrev pub InSlot : Layout → ℕ → ℕ → Type 0
+InSlot l s i = Within (slotOffset l s) 24 i
+
 -- One of the two map bytes of a block.
 abbrev pub InMap : ℕ → ℕ → Type 0
 InMap b i = Within (mapOffset b) 2 i
@@ -46,15 +50,15 @@ InBlock b i = Within (blockOffset b) 1024 i
 abbrev pub Among : List ℕ → (ℕ → ℕ → Type 0) → ℕ → Type 0
 Among bs place i = (b : ℕ) × In b bs × place b i
 
--- Remove touches the slot's entry and the map values of its chain.
+-- Remove touches the slot's bytes before its identity and the map values of its chain.
 abbrev pub RemoveTouches : Layout → List ℕ → ℕ → ℕ → Type 0
 RemoveTouches l img s i = InEntry l s i ⊎ Among (entryChain (mapAt (bytes img)) (entryAt (bytes img) (slotOffset l s))) InMap i
 
--- Put touches the slot's entry, and of the blocks that it takes the map values and the bytes.
+-- Put touches the slot, and of the blocks that it takes the map values and the bytes.
 abbrev pub PutTouches : Layout → List ℕ → ℕ → List ℕ → ℕ → Type 0
 PutTouches l img s content i =
     let taken = chosen l (mapAt (bytes img)) (length content) in
-    InEntry l s i ⊎ (Among taken InMap i ⊎ Among taken InBlock i)
+    InSlot l s i ⊎ (Among taken InMap i ⊎ Among taken InBlock i)
 
 -- ---- all else stays
 
@@ -82,6 +86,6 @@ module _ (l : Layout) (img : List ℕ) (s : ℕ) where
       let taken = chosen l m (length content) in
       let e = newEntry l m name type content in
       splice-off (fillBlocks l img taken content) (slotOffset l s) (entryBytes e) i
-      (rw (length-entry e (length-area l right name legal)) (apart (slotOffset l s) 22 i (λ p. out (inl p))))
+      (rw (length-entry e (length-area l right name legal)) (apart (slotOffset l s) 24 i (λ p. out (inl p))))
       ∙ link-off (writeBlocks img taken content) taken (l .mark) i (λ b j. apart (mapOffset b) 2 i (λ p. out (inr (inl (b, j, p)))))
       ∙ write-off img taken content i (λ b j. apart (blockOffset b) 1024 i (λ p. out (inr (inr (b, j, p)))))

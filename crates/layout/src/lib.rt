@@ -1,11 +1,12 @@
-// The four kinds of floppy image, and where things lie on each: one record that all else is written over.
+// The five kinds of floppy image, and where things lie on each: one record that all else is written over.
 ghost use mathlib.Core.Path.{_≡_};
-ghost use Rattle.layout.specs.Layouts.{layoutOf, s900, s1000, blocksOf, firstOf, lengthOf};
+ghost use Rattle.layout.specs.Layouts.{layoutOf, s900, s1000, s3000, blocksOf, firstOf, lengthOf};
 
 // The sampler whose disk it is.
 pub enum Kind {
     S900,
     S1000,
+    S3000,
 }
 
 pub enum Density {
@@ -22,6 +23,8 @@ pub struct Layout {
     // entries of the directory, and the offset of the first
     pub slots: usize,
     pub directory: usize,
+    // whether that is the second directory, the first one, at offset 0, being passed over
+    pub second: bool,
     // the map value that ends a chain
     pub mark: usize,
     // how many blocks, from block 0 on, must hold the system value in the map, and that value
@@ -78,6 +81,7 @@ fn s900_layout(blocks: usize, first: usize) -> Layout
         first: first,
         slots: 64,
         directory: 0,
+        second: false,
         mark: 32768,
         system: 0,
         reserved: 0,
@@ -101,6 +105,7 @@ fn s1000_layout(blocks: usize, first: usize) -> Layout
         first: first,
         slots: 64,
         directory: 0,
+        second: false,
         mark: 49152,
         system: first,
         reserved: 16384,
@@ -116,6 +121,32 @@ fn s1000_layout(blocks: usize, first: usize) -> Layout
     }
 }
 
+// End mark, system blocks and letters are as on an S1000 disk whose first data block is 17.
+fn s3000_layout(blocks: usize) -> Layout
+    ensures { λ r. ⌜ r ≡ s3000 blocks ⌝ }
+{
+    let like = s1000_layout(blocks, 17);
+    Layout {
+        blocks: like.blocks,
+        first: like.first,
+        slots: 512,
+        directory: 5120,
+        second: true,
+        mark: like.mark,
+        system: like.system,
+        reserved: like.reserved,
+        letters: like.letters,
+        low: like.low,
+        high: like.high,
+        akaii: like.akaii,
+        pad: 0,
+        last: 2,
+        least: 193,
+        most: 218,
+        identity: 3072,
+    }
+}
+
 // The layout of a kind and a density.
 pub fn layout_of(kind: Kind, density: Density) -> Layout
     ensures { λ r. ⌜ r ≡ layoutOf kind density ⌝ }
@@ -125,5 +156,6 @@ pub fn layout_of(kind: Kind, density: Density) -> Layout
     match kind {
         Kind::S900 => s900_layout(blocks, first),
         Kind::S1000 => s1000_layout(blocks, first),
+        Kind::S3000 => s3000_layout(blocks),
     }
 }

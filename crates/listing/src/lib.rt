@@ -10,7 +10,7 @@ ghost use Rattle.layout.specs.Layouts.{slotOffset};
 ghost use Rattle.layout.specs.Right.{LayoutRight};
 ghost use Rattle.record.specs.Record.{kindNumber, densityNumber, entry};
 ghost use Rattle.rules.specs.Check.{answerOf};
-ghost use Rattle.listing.specs.Listing.{decimal, densityWord, refusedText, checkText, fileLine, slotLine, slotLines};
+ghost use Rattle.listing.specs.Listing.{decimal, densityWord, refusedText, checkText, letterOf, fileLine, slotLine, slotLines};
 ghost use Rattle.listing.specs.Lines.{slotAnswer, linesOf};
 ghost use Rattle.listing.specs.Puts.{Puts, Fills};
 use libc::STDIN_FILENO;
@@ -57,7 +57,7 @@ fn put(word: &[u8], out: &mut [u8], at: usize) -> usize
 }
 
 // A word, and the number after it.
-fn put_number(word: &[u8], number: usize, out: &mut [u8; 4096], at: usize) -> usize
+fn put_number(word: &[u8], number: usize, out: &mut [u8; 24576], at: usize) -> usize
     requires { ⌜ (length (now word) ≤ 32768) × (at ≤ 32768) ⌝ }
     ensures { λ r. ⌜ Puts (length (now (word .entry)) + 20) (now (word .entry) ++ decimal number) at (now (out .entry)) (now (out .exit)) r ⌝ }
 {
@@ -68,8 +68,8 @@ fn put_number(word: &[u8], number: usize, out: &mut [u8; 4096], at: usize) -> us
 }
 
 // A refusal, without its line's end.
-pub fn put_refused(refusal: laws::Refusal, out: &mut [u8; 4096], at: usize) -> usize
-    requires { ⌜ at ≤ 4096 ⌝ }
+pub fn put_refused(refusal: laws::Refusal, out: &mut [u8; 24576], at: usize) -> usize
+    requires { ⌜ at ≤ 24576 ⌝ }
     ensures { λ r. ⌜ Puts 52 (refusedText refusal) at (now (out .entry)) (now (out .exit)) r ⌝ }
 {
     let next = put_number(b"refused ", refusal.number as usize, out, at);
@@ -82,11 +82,12 @@ fn kind_number(kind: layout::Kind) -> usize
     match kind {
         layout::Kind::S900 => 900,
         layout::Kind::S1000 => 1000,
+        layout::Kind::S3000 => 3000,
     }
 }
 
-fn put_density(density: layout::Density, out: &mut [u8; 4096], at: usize) -> usize
-    requires { ⌜ at ≤ 8192 ⌝ }
+fn put_density(density: layout::Density, out: &mut [u8; 24576], at: usize) -> usize
+    requires { ⌜ at ≤ 24704 ⌝ }
     ensures { λ r. ⌜ Puts 5 (densityWord (densityNumber density)) at (now (out .entry)) (now (out .exit)) r ⌝ }
 {
     match density {
@@ -96,8 +97,8 @@ fn put_density(density: layout::Density, out: &mut [u8; 4096], at: usize) -> usi
 }
 
 // The check's answer, without its line's end.
-pub fn put_checked(checked: rules::Checked, out: &mut [u8; 4096], at: usize) -> usize
-    requires { ⌜ at ≤ 4096 ⌝ }
+pub fn put_checked(checked: rules::Checked, out: &mut [u8; 24576], at: usize) -> usize
+    requires { ⌜ at ≤ 24576 ⌝ }
     ensures { λ r. ⌜ Puts 79 (checkText (answerOf checked)) at (now (out .entry)) (now (out .exit)) r ⌝ }
 {
     match checked {
@@ -116,12 +117,22 @@ pub fn put_checked(checked: rules::Checked, out: &mut [u8; 4096], at: usize) -> 
     }
 }
 
-// A file's type, length and name, and the line's end.
-pub fn put_file(letter: u8, size: usize, name: &[u8], out: &mut [u8; 4096], at: usize) -> usize
-    requires { ⌜ (length (now name) ≤ 12) × (at ≤ 8192) ⌝ }
-    ensures { λ r. ⌜ Puts 38 (fileLine (entry (now (name .entry)) letter size)) at (now (out .entry)) (now (out .exit)) r ⌝ }
+// What is written of a type byte: its letter, a capital where the byte is that plus 128.
+fn letter_of(byte: u8) -> u8
+    ensures { λ r. ⌜ r ≡ letterOf byte ⌝ }
 {
-    let letters = [letter];
+    if byte < 128 {
+        return byte;
+    }
+    byte - 128
+}
+
+// A file's type, length and name, and the line's end.
+pub fn put_file(byte: u8, size: usize, name: &[u8], out: &mut [u8; 24576], at: usize) -> usize
+    requires { ⌜ (length (now name) ≤ 12) × (at ≤ 24704) ⌝ }
+    ensures { λ r. ⌜ Puts 38 (fileLine (entry (now (name .entry)) byte size)) at (now (out .entry)) (now (out .exit)) r ⌝ }
+{
+    let letters = [letter_of(byte)];
     let next = put(&letters, out, at);
     let next = put_number(b" ", size, out, next);
     let next = put(b" [", out, next);
@@ -134,11 +145,11 @@ fn put_slot(
     head: &[u8],
     layout: layout::Layout,
     slot: usize,
-    out: &mut [u8; 4096],
+    out: &mut [u8; 24576],
     at: usize,
 ) -> usize
-    requires { ⌜ LayoutRight layout × (slotOffset layout slot + 24 ≤ length (now head)) × (slot < 64) × (at ≤ 4096) ⌝ }
-    ensures { λ r. ⌜ Puts 46 (slotLine slot (slotAnswer layout (bytes (now (head .entry))) slot)) at (now (out .entry)) (now (out .exit)) r ⌝ }
+    requires { ⌜ LayoutRight layout × (slotOffset layout slot + 24 ≤ length (now head)) × (slot < 512) × (at ≤ 24576) ⌝ }
+    ensures { λ r. ⌜ Puts 47 (slotLine slot (slotAnswer layout (bytes (now (head .entry))) slot)) at (now (out .entry)) (now (out .exit)) r ⌝ }
 {
     if !slots::is_used(head, layout, slot) {
         return at;
@@ -147,17 +158,17 @@ fn put_slot(
     let from = layout.directory + 24 * slot;
     let to = from + 16;
     let name = names::name_of(layout, &head[from..to]);
-    let letter = slots::type_of(head, layout, slot);
+    let byte = slots::type_of(head, layout, slot);
     let size = slots::size_of(head, layout, slot);
     let next = put_number(b"slot ", slot, out, at);
     let next = put(b" ", out, next);
-    put_file(letter, size, &name[0..letters], out, next)
+    put_file(byte, size, &name[0..letters], out, next)
 }
 
 // The lines of the used slots, in order.
-fn put_slots(head: &[u8], layout: layout::Layout, out: &mut [u8; 4096], at: usize) -> usize
-    requires { ⌜ LayoutRight layout × (slotOffset layout (layout .slots) ≤ length (now head)) × (layout .slots ≡ 64) × (at ≤ 80) ⌝ }
-    ensures { λ r. ⌜ Puts 2944 (slotLines (slotAnswer layout (bytes (now (head .entry)))) 64) at (now (out .entry)) (now (out .exit)) r ⌝ }
+fn put_slots(head: &[u8], layout: layout::Layout, out: &mut [u8; 24576], at: usize) -> usize
+    requires { ⌜ LayoutRight layout × (slotOffset layout (layout .slots) ≤ length (now head)) × (at ≤ 80) ⌝ }
+    ensures { λ r. ⌜ Puts 24064 (slotLines (slotAnswer layout (bytes (now (head .entry)))) (layout .slots)) at (now (out .entry)) (now (out .exit)) r ⌝ }
 {
     let slots = layout.slots;
     let mut next = at;
@@ -170,8 +181,8 @@ fn put_slots(head: &[u8], layout: layout::Layout, out: &mut [u8; 4096], at: usiz
 }
 
 // Puts the listing of an image, of which the head and the length are at hand, at the front of the output, and gives how
-// long it is. 4,096 bytes are enough for every image.
-pub fn lines(head: &[u8], length: usize, out: &mut [u8; 4096]) -> usize
+// long it is. 24,576 bytes are enough for every image.
+pub fn lines(head: &[u8], length: usize, out: &mut [u8; 24576]) -> usize
     ensures { λ r. ⌜ Fills (linesOf (now (head .entry)) length) (now (out .entry)) (now (out .exit)) r ⌝ }
 {
     let checked = disk::check_head(head, length);
@@ -191,12 +202,12 @@ pub fn lines(head: &[u8], length: usize, out: &mut [u8; 4096]) -> usize
     put(b"\n", out, next)
 }
 
-// Lists the image on standard input: of its bytes the first 5,120 are kept, the rest is counted.
+// Lists the image on standard input: of its bytes the first 17,408 are kept, the rest is counted.
 pub fn run() {
-    let mut head = [0u8; 5120];
+    let mut head = [0u8; 17408];
     let kept = io::read_full(STDIN_FILENO, &mut head);
     let rest = count_rest();
-    let mut out = io::buffer();
+    let mut out = [0u8; 24576];
     let count = lines(&head[0..kept], kept + rest, &mut out);
     io::write_all(STDOUT_FILENO, &out[0..count]);
 }

@@ -1,5 +1,5 @@
--- What a caller must fetch of an image: its first 5,120 bytes for every answer but a page's bytes, and for those the file's own blocks.
--- Directory and map lie in the first 5,120 bytes, so entries and chains agree; a content is read from its chain's blocks alone. Assumes nothing.
+-- What a caller must fetch of an image: its first 17,408 bytes for every answer but a page's bytes, and for those the file's own blocks.
+-- Directory and map lie in the first 17,408 bytes, so entries and chains agree; a content is read from its chain's blocks alone. Assumes nothing.
 use mathlib.Core.Path.{_≡_, refl, sym, ap, _∙_}
 use mathlib.Core.Bool.{Bool, true, false, not}
 use mathlib.Core.List.{List, [], _∷_}
@@ -25,7 +25,7 @@ use Rattle.laws.specs.Reader.{bytes}
 use Rattle.layout.specs.declared.Kind.{Kind}
 use Rattle.layout.specs.declared.Density.{Density}
 use Rattle.layout.specs.declared.Layout.{Layout}
-use Rattle.layout.specs.Layouts.{layoutOf}
+use Rattle.layout.specs.Layouts.{layoutOf, headLength}
 use Rattle.layout.specs.Right.{LayoutRight, layout-right}
 use Rattle.blocks.specs.Blocks.{linksFor, blockAt}
 use Rattle.blocks.specs.Lemmas.Blocks.{read-cong}
@@ -49,10 +49,10 @@ use Rattle.calls.specs.Lemmas.Slots.{file-above, file-empty, file-used, file-le
 use Rattle.calls.specs.Lemmas.Done.{list-done, find-done, page-done}
 use Rattle.locate.specs.Locate.{fileBlocks, storing, blocksBy, blocksOf}
 
--- y has x's length and x's first 5,120 bytes.
+-- y has x's length and x's first 17,408 bytes.
 pub record SameHead (x y : List ℕ) : Type 0 where
   pub size : length y ≡ length x
-  pub head : take 5120 y ≡ take 5120 x
+  pub head : take headLength y ≡ take headLength x
 
 -- A count, 0 where a call was refused.
 abbrev pub countIn : Counted → ℕ
@@ -174,7 +174,7 @@ given-all (b ∷ bs) room n = go (ltb (length room) (length (b ∷ bs))) refl
     go true e = absurd (n (rw e refl))
     go false e = rw e (part-splice room 0 (b ∷ bs) (omega (arith, ltb-false (length room) (length (b ∷ bs)) e)))
 
--- ---- the theorems: y has x's length and first 5,120 bytes
+-- ---- the theorems: y has x's length and first 17,408 bytes
 
 module _ (x y : List ℕ) (same : SameHead x y) where
   -- c being a call that a refused image answers with the check's refusal

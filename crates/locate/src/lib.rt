@@ -1,4 +1,4 @@
-// Which blocks hold a slot's file, on any bytes. A caller that keeps images elsewhere fetches these and the first 5,120 bytes alone: a page
+// Which blocks hold a slot's file, on any bytes. A caller that keeps images elsewhere fetches these and the first 17,408 bytes alone: a page
 // reads no other (`page-enough`).
 ghost use mathlib.Core.Path.{_≡_};
 ghost use Prim.Native.Nat.{_≤_};

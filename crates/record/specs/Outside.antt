@@ -3,20 +3,22 @@
 use mathlib.Core.Path.{_≡_, refl}
 use mathlib.Core.List.{List}
 use mathlib.Core.Logic.{_⊎_, inl, inr}
-use Prim.Native.Nat.{ℕ, _+_, _≤_, _<_}
+use mathlib.Core.Bool.{false}
+use Prim.Native.Nat.{ℕ, _+_, _-_, _≤_, _<_}
+use native.Mathlib.Decide.{decLt, ℕ-discrete}
 use native.Mathlib.Omega.{arith}
 use Rattle.laws.specs.Reader.{bytes}
 use Rattle.layout.specs.declared.Layout.{Layout}
 use Rattle.layout.specs.Layouts.{slotOffset, blockOffset}
 use Rattle.layout.specs.Right.{LayoutRight, DirectoryApart}
 use Rattle.map.specs.Map.{Data, Outside}
-use Rattle.image.specs.Image.{filesIn, DiskRules}
-use Rattle.image.specs.Outside.{Within, InEntry, InMap, InBlock, RemoveTouches, PutTouches, remove-outside, put-outside}
+use Rattle.image.specs.Image.{filesIn, DiskRules, removeImage, putImage}
+use Rattle.image.specs.Outside.{Within, InEntry, InSlot, InMap, InBlock, RemoveTouches, PutTouches, remove-outside, put-outside}
 use Rattle.record.specs.Record.{Call, check, list, find, page, put, remove, salvage, judgeName, judgePut}
 use Rattle.record.specs.declared.Judged.{Judged}
 use Rattle.record.specs.declared.Judged.the-variants.{Refuse, Grant}
 use Rattle.record.specs.Lemmas.Granted.{granted-put}
-use Rattle.record.specs.Lemmas.Update.{remove-slot, remove-inside, put-slot, chosen-inside}
+use Rattle.record.specs.Lemmas.Update.{remove-slot, remove-inside, put-slot, chosen-inside, put-identity}
 use Rattle.record.specs.Step.{imageAfter}
 
 -- On an accepted image a call that only reads, is refused or salvages touches no byte, and a granted put or remove those of the slot granted.
@@ -29,9 +31,9 @@ Touches l img (put name type content) i = (s : ℕ) × (judgePut l (filesIn l im
 Touches l img (remove name) i = (s : ℕ) × (judgeName l (filesIn l img) name ≡ Grant s) × RemoveTouches l img s i
 Touches l img (salvage report) i = ⊥
 
--- Whatever the call, these are bytes of entries, map values of data blocks, and data blocks.
+-- Whatever the call, these are bytes of slots, map values of data blocks, and data blocks.
 abbrev pub Changeable : Layout → ℕ → Type 0
-Changeable l i = ((s : ℕ) × (s < l .slots) × InEntry l s i) ⊎ ((b : ℕ) × Data l b × InMap b i) ⊎ ((b : ℕ) × Data l b × InBlock b i)
+Changeable l i = ((s : ℕ) × (s < l .slots) × InSlot l s i) ⊎ ((b : ℕ) × Data l b × InMap b i) ⊎ ((b : ℕ) × Data l b × InBlock b i)
 
 module _ (l : Layout) (right : LayoutRight l) where
   module _ (img : List ℕ) (i : ℕ) where
@@ -61,7 +63,7 @@ module _ (l : Layout) (right : LayoutRight l) where
       put-where name type content s e (inr (inr p)) = inr (inr (p .0, chosen-inside l right img rules name type content s e (p .0) (p .1), p .2))
 
       remove-where : (name : List ℕ) (s : ℕ) → judgeName l (filesIn l img) name ≡ Grant s → RemoveTouches l img s i → Changeable l i
-      remove-where name s e (inl p) = inl (s, remove-slot l right img rules name s e .0, p)
+      remove-where name s e (inl p) = inl (s, remove-slot l right img rules name s e .0, (p .0, omega (arith, p .1)))
       remove-where name s e (inr p) = inr (inl (p .0, remove-inside l right img rules name s e (p .0) (p .1), p .2))
 
       pub touches-where : (c : Call) → Touches l img c i → Changeable l i
@@ -84,18 +86,71 @@ module _ (l : Layout) (right : LayoutRight l) where
   system-fixed i h o q (inr (inr e)) = omega (arith, e .1 .0, e .2 .0)
 
   -- a byte of a slot lies in no map value
-  slot-apart : (s b i : ℕ) → DirectoryApart l → s < l .slots → Within (slotOffset l s) 24 i → b < l .blocks → InMap b i → ⊥
+  slot-apart : (s b i : ℕ) → DirectoryApart l → s < l .slots → InSlot l s i → b < l .blocks → InMap b i → ⊥
   slot-apart s b i (inl a) h p k q = omega (arith, p .1, q .0)
   slot-apart s b i (inr a) h p k q = omega (arith, p .0, q .1)
 
-  -- a slot's identity
-  pub identity-fixed : (s i : ℕ) → s < l .slots → Within (slotOffset l s + 22) 2 i → Changeable l i → ⊥
-  identity-fixed s i h p (inl e) = omega (arith, p .0, p .1, e .2 .0, e .2 .1)
-  identity-fixed s i h p (inr (inl e)) = slot-apart s (e .0) i (right .directory-apart) h (omega (arith, p .0), omega (arith, p .1)) (e .1 .1) (e .2)
-  identity-fixed s i h p (inr (inr e)) = omega (arith, right .directory-low, p .1, e .1 .0, e .2 .0)
-
   -- a system block's map value
   pub reserved-fixed : (b i : ℕ) → b < l .first → InMap b i → Changeable l i → ⊥
-  reserved-fixed b i h p (inl e) = slot-apart (e .0) b i (right .directory-apart) (e .1) (e .2 .0, omega (arith, e .2 .1)) (omega (arith, right .data-some)) p
+  reserved-fixed b i h p (inl e) = slot-apart (e .0) b i (right .directory-apart) (e .1) (e .2) (omega (arith, right .data-some)) p
   reserved-fixed b i h p (inr (inl e)) = omega (arith, p .1, e .1 .0, e .2 .0)
   reserved-fixed b i h p (inr (inr e)) = omega (arith, right .map-low, right .data-some, p .1, e .1 .0, e .2 .0)
+
+  -- ---- a slot's identity in the first directory
+
+  -- another slot's bytes aren't it
+  identity-apart : (s t i : ℕ) → s < l .slots → (t ≡ s → ⊥) → Within (slotOffset l s + 22) 2 i → InSlot l t i → ⊥
+  identity-apart s t i h n p q = go (decLt t s)
+    where
+      go : Dec (t < s) → ⊥
+      go (yes z) = omega (arith, p .0, q .1)
+      go (no z) = omega (arith, p .1, q .0)
+
+  module _ (img : List ℕ) (rules : DiskRules l img) (own : l .second ≡ false) (small : (i : ℕ) → bytes img i < 256) (s i : ℕ) (slot : s < l .slots) (inside : Within (slotOffset l s + 22) 2 i) where
+    -- it lies in no map value and in no data block
+    elsewhere : ((b : ℕ) × Data l b × InMap b i) ⊎ ((b : ℕ) × Data l b × InBlock b i) → ⊥
+    elsewhere (inl e) = slot-apart s (e .0) i (right .directory-apart) slot (omega (arith, inside .0), omega (arith, inside .1)) (e .1 .1) (e .2)
+    elsewhere (inr e) = omega (arith, right .directory-low, inside .1, e .1 .0, e .2 .0)
+
+    put-keeps : (name : List ℕ) (type : ℕ) (content : List ℕ) (t : ℕ) → judgePut l (filesIn l img) name type content ≡ Grant t → Dec (t ≡ s)
+        → bytes (putImage l img t name type content) i ≡ bytes img i
+    put-keeps name type content t e (yes z) =
+        let j = i - (slotOffset l t + 22) in
+        let w : slotOffset l t + 22 + j ≡ i = omega (arith, inside .0) in
+        rw w at (put-identity l right img rules name type content t e own small j (omega (arith, inside .1)))
+    put-keeps name type content t e (no n) = put-outside l img t right name (granted-put l (filesIn l img) name type content t e .name-legal) type content i out
+      where
+        out : PutTouches l img t content i → ⊥
+        out (inl q) = identity-apart s t i slot n inside q
+        out (inr (inl q)) = elsewhere (inl (q .0, chosen-inside l right img rules name type content t e (q .0) (q .1), q .2))
+        out (inr (inr q)) = elsewhere (inr (q .0, chosen-inside l right img rules name type content t e (q .0) (q .1), q .2))
+
+    remove-keeps : (name : List ℕ) (t : ℕ) → judgeName l (filesIn l img) name ≡ Grant t → bytes (removeImage l img t) i ≡ bytes img i
+    remove-keeps name t e = remove-outside l img t i out
+      where
+        -- what remove clears ends before the identity
+        cleared : Dec (t ≡ s) → InEntry l t i → ⊥
+        cleared (yes z) q = omega (arith, inside .0, q .1)
+        cleared (no n) q = identity-apart s t i slot n inside (q .0, omega (arith, q .1))
+
+        out : RemoveTouches l img t i → ⊥
+        out (inl q) = cleared (ℕ-discrete t s) q
+        out (inr q) = elsewhere (inl (q .0, remove-inside l right img rules name t e (q .0) (q .1), q .2))
+
+    pub identity-fixed : (c : Call) → bytes (imageAfter l img c) i ≡ bytes img i
+    unfolding imageAfter
+    identity-fixed check = refl
+    identity-fixed (list t) = refl
+    identity-fixed (find name) = refl
+    identity-fixed (page t offset o) = refl
+    identity-fixed (put name type content) = go (judgePut l (filesIn l img) name type content) refl
+      where
+        go : (j : Judged) → judgePut l (filesIn l img) name type content ≡ j → bytes (imageAfter l img (put name type content)) i ≡ bytes img i
+        go (Refuse r) e = rw e refl
+        go (Grant t) e = rw e (put-keeps name type content t e (ℕ-discrete t s))
+    identity-fixed (remove name) = go (judgeName l (filesIn l img) name) refl
+      where
+        go : (j : Judged) → judgeName l (filesIn l img) name ≡ j → bytes (imageAfter l img (remove name)) i ≡ bytes img i
+        go (Refuse r) e = rw e refl
+        go (Grant t) e = rw e (remove-keeps name t e)
+    identity-fixed (salvage report) = refl

@@ -15,7 +15,7 @@ use Rattle.laws.specs.Lists.{same}
 use Rattle.laws.specs.Splice.{part}
 use Rattle.laws.specs.Reader.{tab}
 use Rattle.layout.specs.declared.Kind.{Kind}
-use Rattle.layout.specs.declared.Kind.the-variants.{S900, S1000}
+use Rattle.layout.specs.declared.Kind.the-variants.{S900, S1000, S3000}
 use Rattle.layout.specs.declared.Density.{Density}
 use Rattle.layout.specs.declared.Density.the-variants.{Low, High}
 use Rattle.layout.specs.declared.Layout.{Layout}
@@ -79,6 +79,7 @@ placeOr (some r) value = r .place
 abbrev pub kindNumber : Kind → ℕ
 kindNumber S900 = 900
 kindNumber S1000 = 1000
+kindNumber S3000 = 3000
 
 abbrev pub densityNumber : Density → ℕ
 densityNumber Low = 0

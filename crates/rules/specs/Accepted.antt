@@ -1,7 +1,7 @@
 -- Demand 2: an image is accepted exactly when the disk rules hold, with its kind, its density, the number of its files and the zeros counted in
--- its map. Each part of the check is one of the rules; two kinds' identities differ, so the kind is one. Assumes nothing.
+-- its map. Each part of the check is one of the rules; no two kinds have one directory and one identity, so the kind is one. Assumes nothing.
 use mathlib.Core.Path.{_≡_, refl, sym, ap, _∙_}
-use mathlib.Core.Bool.{Bool, true, false, not}
+use mathlib.Core.Bool.{Bool, true, false, not, true≢false}
 use mathlib.Core.List.{List}
 use mathlib.Core.Option.{Option, none, some}
 use mathlib.Core.Logic.{_↔_}
@@ -11,15 +11,16 @@ use lib.Dec.{eqb}
 use lib.ListN.{length}
 use borrow.Author.Tests.{eqb-true, eq-eqb, ne-eqb}
 use Rattle.laws.specs.Truth.{pick}
+use Rattle.laws.specs.Lemmas.Truth.{clash, false-if}
 use Rattle.laws.specs.declared.Refusal.{Refusal}
 use Rattle.laws.specs.Lemmas.Scan.{all→, →all, count-cong}
 use Rattle.laws.specs.Reader.{bytes}
 use Rattle.layout.specs.declared.Kind.{Kind}
-use Rattle.layout.specs.declared.Kind.the-variants.{S900, S1000}
+use Rattle.layout.specs.declared.Kind.the-variants.{S900, S1000, S3000}
 use Rattle.layout.specs.declared.Density.{Density}
 use Rattle.layout.specs.declared.Density.the-variants.{Low, High}
 use Rattle.layout.specs.declared.Layout.{Layout}
-use Rattle.layout.specs.Layouts.{layoutOf, imageLength, lengthOf}
+use Rattle.layout.specs.Layouts.{layoutOf, blocksOf, imageLength, lengthOf}
 use Rattle.layout.specs.Right.{layout-right}
 use Rattle.map.specs.Map.{mapAt, freeCount}
 use Rattle.view.specs.Disk.{used, filesOf}
@@ -27,14 +28,14 @@ use Rattle.view.specs.declared.Ruled.{Ruled}
 use Rattle.view.specs.declared.Ruled.the-variants.{Pass, Fail}
 use Rattle.view.specs.Rules.{rules}
 use Rattle.view.specs.Exactly.{passed-valid, valid-passed}
-use Rattle.image.specs.Image.{identityAt, viewOf, filesIn, DiskRules}
+use Rattle.image.specs.Image.{identityAt, viewOf, filesIn, InUse, OfKind, DiskRules}
 use Rattle.record.specs.Record.{isEmpty, fileCount}
 use Rattle.record.specs.Lemmas.Update.{empty-used}
 use Rattle.rules.specs.declared.Checked.{Checked}
 use Rattle.rules.specs.declared.Checked.the-variants.{Accepted, Refused}
 use Rattle.rules.specs.declared.Known.{Known}
 use Rattle.rules.specs.declared.Known.the-variants.{Disk, Unknown}
-use Rattle.rules.specs.Check.{densityOf, hasIdentity, kindOf, knownHead, knownOf, usedCount, checkAs, checkOf}
+use Rattle.rules.specs.Check.{densityOf, passedOver, secondKind, hasIdentity, kindOf, knownHead, knownOf, usedCount, checkAs, checkOf}
 use Rattle.rules.specs.Lemmas.Steps.{known-length, known-kind, known-disk, head-unknown, head-known, as-passed, as-failed}
 
 -- The check's answer for an image that meets the rules.
@@ -48,6 +49,8 @@ length-of S900 Low = refl
 length-of S900 High = refl
 length-of S1000 Low = refl
 length-of S1000 High = refl
+length-of S3000 Low = refl
+length-of S3000 High = refl
 
 pub density-is : (n : ℕ) (d : Density) → densityOf n ≡ some d → n ≡ lengthOf d
 unfolding densityOf
@@ -65,72 +68,89 @@ unfolding densityOf
 is-density n Low e = rw (eq-eqb n (lengthOf Low) e) refl
 is-density n High e = rw (ne-eqb n (lengthOf Low) (λ z. omega arith), eq-eqb n (lengthOf High) e) refl
 
--- ---- the identities
+-- ---- the kind
 
--- every slot has the kind's identity
-abbrev pub Identified : Kind → Density → (ℕ → ℕ) → Type 0
-Identified k d b = (s : ℕ) → s < layoutOf k d .slots → identityAt (layoutOf k d) b s ≡ layoutOf k d .identity
-
-kind-identified : (k : Kind) (d : Density) (b : ℕ → ℕ) → hasIdentity (layoutOf k d) b ≡ true → Identified k d b
+has-identified : (l : Layout) (b : ℕ → ℕ) → hasIdentity l b ≡ true → (s : ℕ) → s < l .slots → identityAt l b s ≡ l .identity
 unfolding hasIdentity
-kind-identified k d b e s h =
-    let l = layoutOf k d in
+has-identified l b e s h =
     eqb-true (identityAt l b s) (l .identity) (all→ (λ t. eqb (identityAt l b t) (l .identity)) 0 (l .slots) e s (omega arith) (omega arith))
 
-identified-kind : (k : Kind) (d : Density) (b : ℕ → ℕ) → Identified k d b → hasIdentity (layoutOf k d) b ≡ true
+identified-has : (l : Layout) (b : ℕ → ℕ) → ((s : ℕ) → s < l .slots → identityAt l b s ≡ l .identity) → hasIdentity l b ≡ true
 unfolding hasIdentity
-identified-kind k d b h =
-    let l = layoutOf k d in
+identified-has l b h =
     →all (λ t. eqb (identityAt l b t) (l .identity)) 0 (l .slots) (λ s p q. eq-eqb (identityAt l b s) (l .identity) (h s (omega arith)))
 
--- no image has both
-not-900 : (d : Density) (b : ℕ → ℕ) → Identified S1000 d b → hasIdentity (layoutOf S900 d) b ≡ false
-not-900 d b h = go (hasIdentity (layoutOf S900 d) b) refl
+-- the first directory is passed over exactly on a layout with a second one
+pub over-second : (l : Layout) (b : ℕ → ℕ) → InUse l b → passedOver b ≡ l .second
+unfolding passedOver
+over-second l b k = go (l .second) refl
   where
-    go : (t : Bool) → hasIdentity (layoutOf S900 d) b ≡ t → hasIdentity (layoutOf S900 d) b ≡ false
-    go true e = absurd (omega (arith, kind-identified S900 d b e 0 (omega arith), h 0 (omega arith)))
-    go false e = e
+    go : (t : Bool) → l .second ≡ t → eqb (b 16) 255 ≡ l .second
+    go true e = eq-eqb (b 16) 255 (k .passed-over .1 e) ∙ sym e
+    go false e = ne-eqb (b 16) 255 (λ p. clash (k .passed-over .0 p) e) ∙ sym e
 
-pub kind-is : (d : Density) (b : ℕ → ℕ) (k : Kind) → kindOf d b ≡ some k → Identified k d b
+pub second-over : (l : Layout) (b : ℕ → ℕ) → passedOver b ≡ l .second → (l .second ≡ true → l .blocks ≡ blocksOf High) → InUse l b
+unfolding passedOver
+second-over l b e dense = record { passed-over = (λ p. sym e ∙ eq-eqb (b 16) 255 p, λ q. eqb-true (b 16) 255 (e ∙ q)); dense = dense }
+
+-- a first directory with the layout's identity in every slot
+first-kind : (l : Layout) (b : ℕ → ℕ) → l .second ≡ false → passedOver b ≡ false → hasIdentity l b ≡ true → OfKind l b
+first-kind l b e p h = record { in-use = second-over l b (p ∙ sym e) (λ q. absurd (clash q e)); identified = λ q. has-identified l b h }
+
+second-kind : (b : ℕ → ℕ) → passedOver b ≡ true → OfKind (layoutOf S3000 High) b
+second-kind b p = record { in-use = second-over (layoutOf S3000 High) b p (λ q. refl); identified = λ e. absurd (true≢false e) }
+
+-- no image has both identities
+not-900 : (d : Density) (b : ℕ → ℕ) → OfKind (layoutOf S1000 d) b → hasIdentity (layoutOf S900 d) b ≡ false
+not-900 d b k =
+    false-if (hasIdentity (layoutOf S900 d) b) (λ e. omega (arith, has-identified (layoutOf S900 d) b e 0 (omega arith), k .identified refl 0 (omega arith)))
+
+pub kind-is : (d : Density) (b : ℕ → ℕ) (k : Kind) → kindOf d b ≡ some k → OfKind (layoutOf k d) b
 unfolding kindOf
-kind-is d b k e = go (hasIdentity (layoutOf S900 d) b) (hasIdentity (layoutOf S1000 d) b) refl refl k e
+kind-is d b k e = go d (passedOver b) (hasIdentity (layoutOf S900 d) b) (hasIdentity (layoutOf S1000 d) b) refl refl refl e
   where
-    go : (t u : Bool) → hasIdentity (layoutOf S900 d) b ≡ t → hasIdentity (layoutOf S1000 d) b ≡ u → (k : Kind) → pick t (some S900) (pick u (some S1000) none) ≡ some k → Identified k d b
-    go true u p q S900 e = kind-identified S900 d b p
-    go true u p q S1000 e = let h : S900 ≡ S1000 = cc in absurd (let z : _≡_ {A = ℕ} 0 1 = cc in omega arith)
-    go false true p q S900 e = let h : S1000 ≡ S900 = cc in absurd (let z : _≡_ {A = ℕ} 0 1 = cc in omega arith)
-    go false true p q S1000 e = kind-identified S1000 d b q
-    go false false p q k e = absurd (let z : _≡_ {A = ℕ} 0 1 = cc in omega arith)
+    told : (c : Density) (j : Kind) → OfKind (layoutOf j c) b → some j ≡ some k → OfKind (layoutOf k c) b
+    told c j o q = let z : j ≡ k = cc in rw (← z) o
 
-pub is-kind : (d : Density) (b : ℕ → ℕ) (k : Kind) → Identified k d b → kindOf d b ≡ some k
+    go : (c : Density) (p t u : Bool) → passedOver b ≡ p → hasIdentity (layoutOf S900 c) b ≡ t → hasIdentity (layoutOf S1000 c) b ≡ u
+        → pick p (secondKind c) (pick t (some S900) (pick u (some S1000) none)) ≡ some k → OfKind (layoutOf k c) b
+    go Low true t u o p q e = absurd (let z : _≡_ {A = ℕ} 0 1 = cc in omega arith)
+    go High true t u o p q e = told High S3000 (second-kind b o) e
+    go c false true u o p q e = told c S900 (first-kind (layoutOf S900 c) b refl o p) e
+    go c false false true o p q e = told c S1000 (first-kind (layoutOf S1000 c) b refl o q) e
+    go c false false false o p q e = absurd (let z : _≡_ {A = ℕ} 0 1 = cc in omega arith)
+
+pub is-kind : (d : Density) (b : ℕ → ℕ) (k : Kind) → OfKind (layoutOf k d) b → kindOf d b ≡ some k
 unfolding kindOf
-is-kind d b S900 h = rw (identified-kind S900 d b h) refl
-is-kind d b S1000 h = rw (not-900 d b h, identified-kind S1000 d b h) refl
+is-kind d b S900 k = rw (over-second (layoutOf S900 d) b (k .in-use), identified-has (layoutOf S900 d) b (k .identified refl)) refl
+is-kind d b S1000 k = rw (over-second (layoutOf S1000 d) b (k .in-use), not-900 d b k, identified-has (layoutOf S1000 d) b (k .identified refl)) refl
+is-kind High b S3000 k = rw (over-second (layoutOf S3000 High) b (k .in-use)) refl
+is-kind Low b S3000 k = absurd (omega (arith, k .in-use .dense refl))
 
 -- ---- what is known of an image
 
 module _ (n : ℕ) (b : ℕ → ℕ) (k : Kind) (d : Density) where
-  -- its length is the density's, its identities are the kind's
-  pub known-is : knownHead n b ≡ Disk k d → (n ≡ lengthOf d) × Identified k d b
+  -- its length is the density's, its directory the kind's
+  pub known-is : knownHead n b ≡ Disk k d → (n ≡ lengthOf d) × OfKind (layoutOf k d) b
   known-is e = go (densityOf n) refl
     where
       unknown : {A : Type 0} {r : Refusal} → knownHead n b ≡ Unknown r → A
       unknown p = let z : Unknown _ ≡ Disk k d = sym p ∙ e in absurd (let o : _≡_ {A = ℕ} 0 1 = cc in omega arith)
 
-      by-kind : (c : Density) → densityOf n ≡ some c → (y : Option Kind) → kindOf c b ≡ y → (n ≡ lengthOf d) × Identified k d b
+      by-kind : (c : Density) → densityOf n ≡ some c → (y : Option Kind) → kindOf c b ≡ y → (n ≡ lengthOf d) × OfKind (layoutOf k d) b
       by-kind c p none q = unknown (known-kind b n c p q)
       by-kind c p (some j) q =
           let z : Disk j c ≡ Disk k d = sym (known-disk b n c p j q) ∙ e in
           let u : j ≡ k = cc in
           let w : c ≡ d = cc in
-          let r : (n ≡ lengthOf c) × Identified j c b = (density-is n c p, kind-is c b j q) in
+          let r : (n ≡ lengthOf c) × OfKind (layoutOf j c) b = (density-is n c p, kind-is c b j q) in
           rw (u, w) at r
 
-      go : (x : Option Density) → densityOf n ≡ x → (n ≡ lengthOf d) × Identified k d b
+      go : (x : Option Density) → densityOf n ≡ x → (n ≡ lengthOf d) × OfKind (layoutOf k d) b
       go none p = unknown (known-length b n p)
       go (some c) p = by-kind c p (kindOf c b) refl
 
-  pub is-known : n ≡ lengthOf d → Identified k d b → knownHead n b ≡ Disk k d
+  pub is-known : n ≡ lengthOf d → OfKind (layoutOf k d) b → knownHead n b ≡ Disk k d
   is-known size kind = known-disk b n d (is-density n d size) k (is-kind d b k kind)
 
 -- ---- the counts
@@ -163,7 +183,7 @@ refused-accepted : {A : Type 0} {r : Refusal} {k : Kind} {d : Density} {f n : �
 refused-accepted e = absurd (let z : _≡_ {A = ℕ} 0 1 = cc in omega arith)
 
 -- an image of a kind and a density that the check accepts keeps their rules
-rules-by : (k : Kind) (d : Density) (img : List ℕ) → length img ≡ lengthOf d → Identified k d (bytes img) → (w : Ruled) → rules (layoutOf k d) (viewOf (layoutOf k d) (bytes img)) ≡ w
+rules-by : (k : Kind) (d : Density) (img : List ℕ) → length img ≡ lengthOf d → OfKind (layoutOf k d) (bytes img) → (w : Ruled) → rules (layoutOf k d) (viewOf (layoutOf k d) (bytes img)) ≡ w
     → (j : Kind) (c : Density) (f n : ℕ) → checkAs k d (bytes img) ≡ Accepted j c f n → DiskRules (layoutOf j c) img
 rules-by k d img size kind Pass p j c f n e =
     let q = sym (as-passed (bytes img) d k p) ∙ e in

@@ -11,11 +11,11 @@ use Rattle.laws.specs.Truth.{pick}
 use Rattle.laws.specs.Scan.{all, count}
 use Rattle.laws.specs.Reader.{bytes}
 use Rattle.layout.specs.declared.Kind.{Kind}
-use Rattle.layout.specs.declared.Kind.the-variants.{S900, S1000}
+use Rattle.layout.specs.declared.Kind.the-variants.{S900, S1000, S3000}
 use Rattle.layout.specs.declared.Density.{Density}
 use Rattle.layout.specs.declared.Density.the-variants.{Low, High}
 use Rattle.layout.specs.declared.Layout.{Layout}
-use Rattle.layout.specs.Layouts.{layoutOf, lengthOf}
+use Rattle.layout.specs.Layouts.{layoutOf, lengthOf, headLength}
 use Rattle.map.specs.Map.{mapAt, freeCount}
 use Rattle.view.specs.Disk.{View, used}
 use Rattle.view.specs.declared.Ruled.{Ruled}
@@ -41,21 +41,35 @@ orUnknown (some x) number next = next x
 unfoldable pub densityOf : ℕ → Option Density
 densityOf length = pick (eqb length (lengthOf Low)) (some Low) (pick (eqb length (lengthOf High)) (some High) none)
 
+-- 2: slot 0 of the first directory has type byte 255, so that directory is passed over (document 02, request five).
+unfoldable pub passedOver : (ℕ → ℕ) → Bool
+passedOver b = eqb (b 16) 255
+
+-- The kind of such an image: high density alone has one.
+abbrev pub secondKind : Density → Option Kind
+secondKind Low = none
+secondKind High = some S3000
+
 -- 2: every slot, empty ones too, has the layout's identity.
 unfoldable pub hasIdentity : Layout → (ℕ → ℕ) → Bool
 unfolding all
 hasIdentity l b = all (λ s. eqb (identityAt l b s) (l .identity)) 0 (l .slots)
 
+-- Slot 0's type is asked before the identities.
 unfoldable pub kindOf : Density → (ℕ → ℕ) → Option Kind
-unfolding hasIdentity
-kindOf d b = pick (hasIdentity (layoutOf S900 d) b) (some S900) (pick (hasIdentity (layoutOf S1000 d) b) (some S1000) none)
+unfolding passedOver hasIdentity
+kindOf d b =
+    pick (passedOver b) (secondKind d)
+    (pick (hasIdentity (layoutOf S900 d) b) (some S900)
+    (pick (hasIdentity (layoutOf S1000 d) b) (some S1000)
+    none))
 
--- 2: the kind whose identity every slot has.
+-- 2: the kind that the directory in use tells.
 unfoldable pub knownKind : Density → (ℕ → ℕ) → Known
 unfolding kindOf
 knownKind d b = orUnknown (kindOf d b) 2 (λ k. Disk k d)
 
--- 1, then 2: what is known of an image by its length and its slots' identities. The check and the salvage run both begin so.
+-- 1, then 2: what is known of an image by its length and its directory. The check and the salvage run both begin so.
 unfoldable pub knownHead : ℕ → (ℕ → ℕ) → Known
 unfolding densityOf knownKind
 knownHead length b = orUnknown (densityOf length) 1 (λ d. knownKind d b)
@@ -92,11 +106,11 @@ checkHead length b = checkKnown (knownHead length b) b
 abbrev pub checkOf : List ℕ → Checked
 checkOf img = checkHead (length img) (bytes img)
 
--- The same where only an image's head is at hand: its first 5,120 bytes suffice (`start-check`). A head that is shorter than it could be is
+-- The same where only an image's head is at hand: its first 17,408 bytes suffice (`start-check`). A head that is shorter than it could be is
 -- refused as a wrong length is.
 unfoldable pub knownStart : List ℕ → ℕ → Known
 unfolding knownHead
-knownStart head size = pick (ltb (length head) (min size 5120)) (Unknown (refusalAt 1 0)) (knownHead size (bytes head))
+knownStart head size = pick (ltb (length head) (min size headLength)) (Unknown (refusalAt 1 0)) (knownHead size (bytes head))
 
 unfoldable pub checkStart : List ℕ → ℕ → Checked
 unfolding knownStart checkAs

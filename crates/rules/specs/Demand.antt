@@ -22,7 +22,7 @@ use Rattle.layout.specs.declared.Kind.{Kind}
 use Rattle.layout.specs.declared.Kind.the-variants.{S900, S1000}
 use Rattle.layout.specs.declared.Density.{Density}
 use Rattle.layout.specs.declared.Layout.{Layout}
-use Rattle.layout.specs.Layouts.{layoutOf, blocksOf, firstOf}
+use Rattle.layout.specs.Layouts.{layoutOf, dataBlocks}
 use Rattle.layout.specs.Right.{layout-right}
 use Rattle.blocks.specs.Blocks.{blocksFor}
 use Rattle.names.specs.Names.{legalName, legalType}
@@ -63,7 +63,7 @@ pub record Kept (k : Kind) (d : Density) (before : List ℕ) (held : Files) (t :
   -- a file that the call doesn't remove keeps slot, name, type and content
   pub others : (s : ℕ) (file : File) → filesIn (layoutOf k d) before s ≡ some file → (Removes (layoutOf k d) (t .call) file → ⊥) → filesIn (layoutOf k d) (t .after) s ≡ some file
   -- the free blocks, counted in the map, and every file's length rounded up to blocks make the data area
-  pub free : freeCount (layoutOf k d) (mapAt (bytes (t .after))) + total (λ s. takes (filesIn (layoutOf k d) (t .after) s)) 0 (layoutOf k d .slots) ≡ blocksOf d - firstOf d
+  pub free : freeCount (layoutOf k d) (mapAt (bytes (t .after))) + total (λ s. takes (filesIn (layoutOf k d) (t .after) s)) 0 (layoutOf k d .slots) ≡ dataBlocks (layoutOf k d)
   -- a put with a legal type, a legal name by which no file would be removed, some content and an empty slot is refused for room ↔ it needs more blocks than are free
   pub room : (name : List ℕ) (type : ℕ) (content : List ℕ) → t .call ≡ put name type content → legalType (layoutOf k d) type ≡ true → legalName (layoutOf k d) name ≡ true
       → ((s : ℕ) (file : File) → filesIn (layoutOf k d) before s ≡ some file → Removes (layoutOf k d) (remove name) file → ⊥) → (length content ≡ 0 → ⊥)
@@ -141,17 +141,13 @@ page-bytes k d f n img e slot file there offset out h =
 
 -- ---- the free blocks
 
-data-of : (k : Kind) (d : Density) → layoutOf k d .blocks - layoutOf k d .first ≡ blocksOf d - firstOf d
-data-of S900 d = refl
-data-of S1000 d = refl
-
 -- The free blocks that the check gives are the zeros in the map's data area, and with every file's length rounded up to blocks they
--- make the data area, 796 or 1,595.
+-- make the data area: 796, 1,595 or 1,583 blocks.
 pub free-blocks : (k : Kind) (d : Density) (f n : ℕ) (img : List ℕ) → checkOf img ≡ Accepted k d f n
-    → (n ≡ freeCount (layoutOf k d) (mapAt (bytes img))) × (n + total (λ s. takes (filesIn (layoutOf k d) img s)) 0 (layoutOf k d .slots) ≡ blocksOf d - firstOf d)
+    → (n ≡ freeCount (layoutOf k d) (mapAt (bytes img))) × (n + total (λ s. takes (filesIn (layoutOf k d) img s)) 0 (layoutOf k d .slots) ≡ dataBlocks (layoutOf k d))
 free-blocks k d f n img e =
     let w = accepted-counts k d f n img e .1 in
-    (w, rw w (area-split (layoutOf k d) (layout-right k d) img (accepted-rules k d f n img e) ∙ data-of k d))
+    (w, rw w (area-split (layoutOf k d) (layout-right k d) img (accepted-rules k d f n img e)))
 
 -- ---- room
 
@@ -247,7 +243,7 @@ module _ (k : Kind) (d : Density) where
         accepted = rules-accepted k d (t .after) (b .0);
         files = λ s. ap (λ (x : Files). x s) (b .1);
         others = λ s file there spared. ap (λ (x : Files). x s) (b .1) ∙ record-others.others (shapeOf k d) held s file (sym (ap (λ (x : Files). x s) e) ∙ there) (t .call) spared;
-        free = area-split l (layout-right k d) (t .after) (b .0) ∙ data-of k d;
+        free = area-split l (layout-right k d) (t .after) (b .0);
         room = λ name type content c type-legal name-legal new some-content s inside empty.
             let yes = rules-accepted k d img r in
             let answer : t .answer ≡ callOf img (put name type content) .answer = ap (λ (o : Outcome (List ℕ)). o .answer) (ran .0) ∙ ap (λ (x : Call). callOf img x .answer) c in

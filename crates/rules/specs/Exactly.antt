@@ -19,22 +19,22 @@ use Rattle.view.specs.declared.Ruled.the-variants.{Pass, Fail}
 use Rattle.view.specs.Rules.{rules}
 use Rattle.view.specs.Broken.{Due}
 use Rattle.view.specs.Exactly.{refused-due}
-use Rattle.image.specs.Image.{viewOf}
+use Rattle.image.specs.Image.{viewOf, OfKind}
 use Rattle.rules.specs.declared.Checked.the-variants.{Refused}
 use Rattle.rules.specs.declared.Known.{Known}
 use Rattle.rules.specs.declared.Known.the-variants.{Disk, Unknown}
 use Rattle.rules.specs.Check.{densityOf, kindOf, knownOf, checkAs, checkOf}
 use Rattle.rules.specs.Lemmas.Steps.{known-length, known-kind, known-disk, head-unknown, head-known, as-passed, as-failed}
-use Rattle.rules.specs.Accepted.{Identified, density-is, is-density, kind-is, is-kind, known-is, is-known}
+use Rattle.rules.specs.Accepted.{density-is, is-density, kind-is, is-kind, known-is, is-known}
 
 -- A refusal is due to an image.
 pub data Owed (img : List ℕ) : Refusal → Type 0 where
   -- 1: its length is neither of the two
   no-density : ((d : Density) → length img ≡ lengthOf d → ⊥) → Owed img (refusalAt 1 0)
-  -- 2: its length is, and its slots' identities are those of no kind
-  no-kind : (d : Density) → length img ≡ lengthOf d → ((k : Kind) → Identified k d (bytes img) → ⊥) → Owed img (refusalAt 2 0)
-  -- 3 to 9: length and identities are those of a kind and a density, and a rule of theirs is broken
-  by-rule : (k : Kind) (d : Density) {r : Refusal} → length img ≡ lengthOf d → Identified k d (bytes img) → Due (layoutOf k d) (viewOf (layoutOf k d) (bytes img)) r → Owed img r
+  -- 2: its length is, and its directory is that of no kind
+  no-kind : (d : Density) → length img ≡ lengthOf d → ((k : Kind) → OfKind (layoutOf k d) (bytes img) → ⊥) → Owed img (refusalAt 2 0)
+  -- 3 to 9: length and directory are those of a density and a kind, and a rule of theirs is broken
+  by-rule : (k : Kind) (d : Density) {r : Refusal} → length img ≡ lengthOf d → OfKind (layoutOf k d) (bytes img) → Due (layoutOf k d) (viewOf (layoutOf k d) (bytes img)) r → Owed img r
 
 none-some : {A : Type 0} {x : A} → none ≡ some x → ⊥
 none-some e = let z : _≡_ {A = ℕ} 0 1 = cc in omega arith
@@ -63,7 +63,7 @@ unknown-owed img r e = go (densityOf (length img)) refl
     go (some d) p = by-kind d p (kindOf d (bytes img)) refl
 
 module _ (img : List ℕ) (r : Refusal) where
-  by-rules : (k : Kind) (d : Density) → length img ≡ lengthOf d → Identified k d (bytes img) → (w : Ruled) → rules (layoutOf k d) (viewOf (layoutOf k d) (bytes img)) ≡ w
+  by-rules : (k : Kind) (d : Density) → length img ≡ lengthOf d → OfKind (layoutOf k d) (bytes img) → (w : Ruled) → rules (layoutOf k d) (viewOf (layoutOf k d) (bytes img)) ≡ w
       → checkAs k d (bytes img) ≡ Refused r → Owed img r
   by-rules k d size kind Pass p e = let q = sym (as-passed (bytes img) d k p) ∙ e in absurd (let z : _≡_ {A = ℕ} 0 1 = cc in omega arith)
   by-rules k d size kind (Fail q) p e =

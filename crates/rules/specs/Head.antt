@@ -1,7 +1,7 @@
--- The check reads the length, the directory and the map alone (`check-reads`); so the first 5,120 bytes and the length decide it.
--- Readers that agree there show the same identities, entries and map values. Assumes nothing.
+-- The check reads the length, byte 16, the directory in use and the map alone (`check-reads`); so the first 17,408 bytes and the length decide it.
+-- Readers that agree there show the same kind, entries and map values. Assumes nothing.
 use mathlib.Core.Path.{_≡_, refl, sym, ap, ap₂, _∙_}
-use mathlib.Core.Bool.{Bool}
+use mathlib.Core.Bool.{Bool, true, false}
 use mathlib.Core.List.{List}
 use mathlib.Core.Logic.{_⊎_, inl, inr}
 use mathlib.Core.Option.{Option, none, some}
@@ -11,26 +11,25 @@ use lib.Dec.{eqb}
 use lib.ListN.{length, take, length-take}
 use lib.Seq.{getD-take, take-take}
 use borrow.Author.Tests.{le-ltb}
-use Rattle.laws.specs.Truth.{pick}
+use Rattle.laws.specs.Lemmas.Truth.{clash}
 use Rattle.laws.specs.Lemmas.Scan.{all-cong, count-cong}
 use Rattle.laws.specs.Reader.{bytes}
 use Rattle.layout.specs.declared.Kind.{Kind}
 use Rattle.layout.specs.declared.Kind.the-variants.{S900, S1000}
 use Rattle.layout.specs.declared.Density.{Density}
-use Rattle.layout.specs.declared.Density.the-variants.{Low, High}
 use Rattle.layout.specs.declared.Layout.{Layout}
-use Rattle.layout.specs.Layouts.{layoutOf, lengthOf, blockOffset, mapOffset, slotOffset}
+use Rattle.layout.specs.Layouts.{layoutOf, lengthOf, headLength, mapOffset, slotOffset}
 use Rattle.layout.specs.Right.{LayoutRight, layout-right}
 use Rattle.blocks.specs.Lemmas.Numbers.{number-cong}
 use Rattle.map.specs.Map.{mapAt, freeCount}
 use Rattle.view.specs.Disk.{used}
 use Rattle.view.specs.Lemmas.Head.{same-rules}
-use Rattle.image.specs.Image.{identityAt, viewOf}
+use Rattle.image.specs.Image.{identityAt, viewOf, InUse}
 use Rattle.image.specs.Lemmas.Entries.{entry-cong}
 use Rattle.rules.specs.declared.Known.{Known}
 use Rattle.rules.specs.declared.Known.the-variants.{Disk, Unknown}
-use Rattle.rules.specs.Accepted.{density-is, known-is}
-use Rattle.rules.specs.Check.{densityOf, hasIdentity, kindOf, knownHead, knownOf, knownStart, usedCount, checkAs, checkHead, checkOf, checkStart}
+use Rattle.rules.specs.Accepted.{second-over, density-is, known-is}
+use Rattle.rules.specs.Check.{densityOf, passedOver, hasIdentity, kindOf, knownHead, knownOf, knownStart, usedCount, checkAs, checkHead, checkOf, checkStart}
 use Rattle.rules.specs.Lemmas.Steps.{known-length, known-kind, known-disk, head-unknown, head-known}
 
 -- The check reads a byte of an image of this layout: it lies in the directory or in the map.
@@ -61,30 +60,45 @@ module _ (b c : ℕ → ℕ) (l : Layout) (right : LayoutRight l) (agree : (i : 
       count-cong (λ k. eqb (mapAt c k) 0) (λ k. eqb (mapAt b k) 0) (l .first) (l .blocks - l .first)
       (λ k p q. ap (λ (x : ℕ). eqb x 0) (same-map k (omega (arith, right .data-some))))
 
-module _ (b c : ℕ → ℕ) (d : Density) (agree : (k : Kind) (i : ℕ) → Read (layoutOf k d) i → c i ≡ b i) where
-  same-as : (k : Kind) → checkAs k d c ≡ checkAs k d b
+module _ (b c : ℕ → ℕ) (d : Density) (first : c 16 ≡ b 16) (agree : (k : Kind) (i : ℕ) → InUse (layoutOf k d) b → Read (layoutOf k d) i → c i ≡ b i) where
+  same-as : (k : Kind) → InUse (layoutOf k d) b → checkAs k d c ≡ checkAs k d b
   unfolding checkAs
-  same-as k =
+  same-as k here =
       let l = layoutOf k d in
       let right = layout-right k d in
+      let alike : (i : ℕ) → Read l i → c i ≡ b i = λ i. agree k i here in
       rw (
-        same-rules l right (viewOf l b) (viewOf l c) (same-map b c l right (agree k)) (same-entry b c l right (agree k)),
-        same-used b c l right (agree k),
-        same-free b c l right (agree k),
+        same-rules l right (viewOf l b) (viewOf l c) (same-map b c l right alike) (same-entry b c l right alike),
+        same-used b c l right alike,
+        same-free b c l right alike,
       ) refl
 
-  same-kind : kindOf d c ≡ kindOf d b
-  unfolding kindOf
-  same-kind =
-      ap₂ (λ (t u : Bool). pick t (some S900) (pick u (some S1000) none)) (same-has b c (layoutOf S900 d) (layout-right S900 d) (agree S900)) (same-has b c (layoutOf S1000 d) (layout-right S1000 d) (agree S1000))
+  same-over : passedOver c ≡ passedOver b
+  unfolding passedOver
+  same-over = ap (λ (x : ℕ). eqb x 255) first
 
-module _ (b c : ℕ → ℕ) (n : ℕ) (agree : (k : Kind) (d : Density) (i : ℕ) → n ≡ lengthOf d → Read (layoutOf k d) i → c i ≡ b i) where
-  same-known : knownHead n c ≡ knownHead n b
+  -- the identities are asked for only where the first directory is in use
+  kind-by : (t : Bool) → passedOver b ≡ t → kindOf d c ≡ kindOf d b
+  unfolding kindOf
+  kind-by true p = rw (same-over, p) refl
+  kind-by false p =
+      let told : (k : Kind) → layoutOf k d .second ≡ false → hasIdentity (layoutOf k d) c ≡ hasIdentity (layoutOf k d) b =
+      λ k e. same-has b c (layoutOf k d) (layout-right k d) (λ i. agree k i (second-over (layoutOf k d) b (p ∙ sym e) (λ q. absurd (clash q e)))) in
+      rw (same-over, told S900 refl, told S1000 refl) refl
+
+  same-kind : kindOf d c ≡ kindOf d b
+  same-kind = kind-by (passedOver b) refl
+
+module _ (b c : ℕ → ℕ) (n : ℕ) (first : c 16 ≡ b 16) (agree : (k : Kind) (d : Density) (i : ℕ) → n ≡ lengthOf d → InUse (layoutOf k d) b → Read (layoutOf k d) i → c i ≡ b i) where
+  pub same-known : knownHead n c ≡ knownHead n b
   same-known = go (densityOf n) refl
     where
+      alike : (d : Density) → densityOf n ≡ some d → kindOf d c ≡ kindOf d b
+      alike d p = same-kind b c d first (λ k i. agree k d i (density-is n d p))
+
       by-kind : (d : Density) → densityOf n ≡ some d → (k : Option Kind) → kindOf d b ≡ k → knownHead n c ≡ knownHead n b
-      by-kind d p none q = known-kind c n d p (same-kind b c d (λ k i. agree k d i (density-is n d p)) ∙ q) ∙ sym (known-kind b n d p q)
-      by-kind d p (some k) q = known-disk c n d p k (same-kind b c d (λ k i. agree k d i (density-is n d p)) ∙ q) ∙ sym (known-disk b n d p k q)
+      by-kind d p none q = known-kind c n d p (alike d p ∙ q) ∙ sym (known-kind b n d p q)
+      by-kind d p (some k) q = known-disk c n d p k (alike d p ∙ q) ∙ sym (known-disk b n d p k q)
 
       go : (d : Option Density) → densityOf n ≡ d → knownHead n c ≡ knownHead n b
       go none p = known-length c n p ∙ sym (known-length b n p)
@@ -95,45 +109,41 @@ module _ (b c : ℕ → ℕ) (n : ℕ) (agree : (k : Kind) (d : Density) (i : �
     where
       go : (x : Known) → knownHead n b ≡ x → checkHead n c ≡ checkHead n b
       go (Unknown r) e = head-unknown c n (same-known ∙ e) ∙ sym (head-unknown b n e)
-      go (Disk k d) e = head-known c n (same-known ∙ e) ∙ same-as b c d (λ j i. agree j d i (known-is n b k d e .0)) k ∙ sym (head-known b n e)
+      go (Disk k d) e =
+          let w = known-is n b k d e in
+          head-known c n (same-known ∙ e) ∙ same-as b c d first (λ j i. agree j d i (w .0)) k (w .1 .in-use) ∙ sym (head-known b n e)
 
--- The check reads the length, the directory and the map, and nothing else: images that agree in these get the same answer.
-pub check-reads : (x y : List ℕ) → length y ≡ length x
-    → ((k : Kind) (d : Density) (i : ℕ) → length x ≡ lengthOf d → Read (layoutOf k d) i → bytes y i ≡ bytes x i) → checkOf y ≡ checkOf x
-check-reads x y n agree = ap (λ (k : ℕ). checkHead k (bytes y)) n ∙ same-check (bytes x) (bytes y) (length x) agree
+-- The check reads the length, slot 0's type in the first directory, the directory in use and the map, and nothing else: images that agree in these get
+-- the same answer.
+pub check-reads : (x y : List ℕ) → length y ≡ length x → bytes y 16 ≡ bytes x 16
+    → ((k : Kind) (d : Density) (i : ℕ) → length x ≡ lengthOf d → InUse (layoutOf k d) (bytes x) → Read (layoutOf k d) i → bytes y i ≡ bytes x i) → checkOf y ≡ checkOf x
+check-reads x y n first agree = ap (λ (k : ℕ). checkHead k (bytes y)) n ∙ same-check (bytes x) (bytes y) (length x) first agree
 
--- ---- what is read lies in the first 5,120 bytes
+-- ---- what is read lies in the first 17,408 bytes
 
--- every layout's system blocks lie in them
-pub head-holds : (k : Kind) (d : Density) → blockOffset (layoutOf k d .first) ≤ 5120
-head-holds S900 Low = omega arith
-head-holds S900 High = omega arith
-head-holds S1000 Low = omega arith
-head-holds S1000 High = omega arith
-
-pub read-head : (k : Kind) (d : Density) (i : ℕ) → Read (layoutOf k d) i → i < 5120
-read-head k d i (inl p) = omega (arith, p .1, layout-right k d .directory-low, head-holds k d)
-read-head k d i (inr p) = omega (arith, p .1, layout-right k d .map-low, head-holds k d)
+pub read-head : (k : Kind) (d : Density) (i : ℕ) → Read (layoutOf k d) i → i < headLength
+read-head k d i (inl p) = omega (arith, p .1, layout-right k d .directory-low, layout-right k d .head-holds)
+read-head k d i (inr p) = omega (arith, p .1, layout-right k d .map-low, layout-right k d .head-holds)
 
 -- lists with the same head read alike there
-pub head-agree : (x y : List ℕ) → take 5120 y ≡ take 5120 x → (i : ℕ) → i < 5120 → bytes y i ≡ bytes x i
-head-agree x y e i h = sym (getD-take 5120 y i 0 h) ∙ ap (λ (z : List ℕ). bytes z i) e ∙ getD-take 5120 x i 0 h
+pub head-agree : (x y : List ℕ) → take headLength y ≡ take headLength x → (i : ℕ) → i < headLength → bytes y i ≡ bytes x i
+head-agree x y e i h = sym (getD-take headLength y i 0 h) ∙ ap (λ (z : List ℕ). bytes z i) e ∙ getD-take headLength x i 0 h
 
--- A head that has the image's first 5,120 bytes, or all of them, suffices.
-pub start-check : (head img : List ℕ) → min (length img) 5120 ≤ length head → take 5120 head ≡ take 5120 img → checkStart head (length img) ≡ checkOf img
+-- A head that has the image's first 17,408 bytes, or all of them, suffices.
+pub start-check : (head img : List ℕ) → min (length img) headLength ≤ length head → take headLength head ≡ take headLength img → checkStart head (length img) ≡ checkOf img
 unfolding checkStart knownStart checkHead
 start-check head img n e =
-    rw (le-ltb (length head) (min (length img) 5120) n) (same-check (bytes img) (bytes head) (length img) (λ k d i h r. head-agree img head e i (read-head k d i r)))
+    rw (le-ltb (length head) (min (length img) headLength) n) (same-check (bytes img) (bytes head) (length img) (head-agree img head e 16 (omega arith)) (λ k d i h u r. head-agree img head e i (read-head k d i r)))
 
 -- All of an image is a head that suffices.
 pub whole-known : (img : List ℕ) → knownStart img (length img) ≡ knownOf img
 unfolding knownStart
-whole-known img = rw (le-ltb (length img) (min (length img) 5120) (omega arith)) refl
+whole-known img = rw (le-ltb (length img) (min (length img) headLength) (omega arith)) refl
 
--- The listing program's head: the first 5,120 bytes.
-pub head-check : (img : List ℕ) → checkStart (take 5120 img) (length img) ≡ checkOf img
-head-check img = start-check (take 5120 img) img (omega (arith, length-take 5120 img)) (take-take 5120 5120 img (omega arith))
+-- The listing program's head: the first 17,408 bytes.
+pub head-check : (img : List ℕ) → checkStart (take headLength img) (length img) ≡ checkOf img
+head-check img = start-check (take headLength img) img (omega (arith, length-take headLength img)) (take-take headLength headLength img (omega arith))
 
 -- Images of one length with the same head are checked alike.
-pub head-decides : (x y : List ℕ) → length x ≡ length y → take 5120 x ≡ take 5120 y → checkOf x ≡ checkOf y
+pub head-decides : (x y : List ℕ) → length x ≡ length y → take headLength x ≡ take headLength y → checkOf x ≡ checkOf y
 head-decides x y n h = sym (head-check x) ∙ ap₂ (λ (k : ℕ) (z : List ℕ). checkStart z k) n h ∙ head-check y

@@ -117,9 +117,10 @@ module _ (k : Kind) (d : Density) (f n : ℕ) (img : List ℕ) (e : checkOf img 
   pub system-kept : i < blockOffset (l .first) → Outside (l .blocks) i → (i < l .directory) ⊎ (slotOffset l (l .slots) ≤ i) → bytes (callOf img c .state) i ≡ bytes img i
   system-kept h o q = fixed (system-fixed l (layout-right k d) i h o q)
 
-  -- the identity of every slot
-  pub identity-kept : (s : ℕ) → s < l .slots → Within (slotOffset l s + 22) 2 i → bytes (callOf img c .state) i ≡ bytes img i
-  identity-kept s h p = fixed (identity-fixed l (layout-right k d) s i h p)
+  -- the identity of every slot of the first directory, which put writes over itself
+  pub identity-kept : l .second ≡ false → ((j : ℕ) → bytes img j < 256) → (s : ℕ) → s < l .slots → Within (slotOffset l s + 22) 2 i → bytes (callOf img c .state) i ≡ bytes img i
+  unfolding callOf stepImage
+  identity-kept own small s h p = rw e (identity-fixed l (layout-right k d) img (accepted-rules k d f n img e) own small s i h p c)
 
   -- the map value of every system block
   pub reserved-kept : (b : ℕ) → b < l .first → InMap b i → bytes (callOf img c .state) i ≡ bytes img i

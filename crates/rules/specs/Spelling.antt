@@ -24,7 +24,7 @@ use Rattle.names.specs.Names.{legalName, legalArea, legalType, nameOf, areaOf, 
 use Rattle.names.specs.NameLaws.{area-back, name-legal, name-capitals, capitals-legal}
 use Rattle.view.specs.Disk.{File, fileOf}
 use Rattle.view.specs.Lemmas.Kept.{file-at}
-use Rattle.view.specs.Lemmas.Put.{formed-area}
+use Rattle.view.specs.Lemmas.Formed.{formed-parts}
 use Rattle.image.specs.Lemmas.Entries.{length-area}
 use Rattle.image.specs.Image.{viewOf, filesIn, DiskRules, removeImage}
 use Rattle.record.specs.Record.{shapeOf, Files, Call, find, put, remove, Answer, Outcome, refused, valued, done, named, keptFile, replaced, slotOf, judgePut, stepFiles}
@@ -89,7 +89,7 @@ module _ (k : Kind) (d : Density) (f n : ℕ) (img : List ℕ) (accept : checkOf
       sym (ap nameOr there) ∙ ap nameOr (file-at l (viewOf l (bytes img)) s (u .0)) ∙ rw (u .1) refl
 
   legal-area : (s : ℕ) (file : File) → files s ≡ some file → legalArea l (area s) ≡ true
-  legal-area s file there = formed-area l (viewOf l (bytes img) .entry s) (rules .valid .legal s (file-used l img s file there))
+  legal-area s file there = formed-parts l (viewOf l (bytes img) .entry s) (rules .valid .legal s (file-used l img s file there)) .area
 
   area-in : (s : ℕ) (file : File) → files s ≡ some file → areaOf l (file .name) ≡ area s
   area-in s file there = ap (areaOf l) (name-in s file there) ∙ area-back l (layout-right k d) (area s) (legal-area s file there)

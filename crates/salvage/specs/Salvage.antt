@@ -13,13 +13,9 @@ use Rattle.layout.specs.Layouts.{slotOffset}
 use Rattle.map.specs.Map.{mapAt, setAll, faultOf}
 use Rattle.view.specs.Disk.{Entry, View, used}
 use Rattle.view.specs.Rules.{badSystem, malformed, repeated, walkOf, broken, sharing, stray}
-use Rattle.image.specs.Image.{entryAt, viewOf, eraseEntry}
+use Rattle.image.specs.Image.{erased, entryAt, viewOf, eraseEntry}
 
 -- ---- slots, in rising order
-
--- A slot as remove leaves it.
-abbrev pub noEntry : Entry
-noEntry = record { area = replicate 16 0; type = 0; size = 0; start = 0 }
 
 -- A disk with other entries: its map and its blocks are as given.
 abbrev pub withEntries : View → (ℕ → Entry) → View
@@ -41,9 +37,9 @@ verdict l v s =
 abbrev pub drops : ℕ → Bool
 drops n = ltb 1 n
 
--- Entries with slot s erased if it is dropped.
+-- Entries with slot s as remove leaves it if it is dropped.
 abbrev pub erasedIf : Bool → ℕ → (ℕ → Entry) → ℕ → Entry
-erasedIf dropped s entry t = pick (both dropped (eqb t s)) noEntry (entry t)
+erasedIf dropped s entry t = pick (both dropped (eqb t s)) (erased (entry t)) (entry t)
 
 -- The entries once the slots below n were taken, one after another.
 unfoldable pub entriesAfter : Layout → View → ℕ → ℕ → Entry

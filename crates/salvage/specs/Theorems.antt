@@ -29,9 +29,10 @@ use Rattle.view.specs.Disk.{View, File, used, owned, contentOf, Valid}
 use Rattle.view.specs.Rules.{badSystem, stray}
 use Rattle.view.specs.Broken.{system, owner}
 use Rattle.view.specs.Exactly.{valid-quiet}
-use Rattle.image.specs.Image.{identityAt, viewOf, filesIn, DiskRules}
+use Rattle.image.specs.Image.{identityAt, viewOf, filesIn, OfKind, DiskRules, erased}
+use Rattle.image.specs.Lemmas.Kinds.{kind-kept}
 use Rattle.image.specs.Outside.{InEntry, InMap, Among, apart}
-use Rattle.salvage.specs.Salvage.{noEntry, drops, reportOf, survivors, eraseSlots, droppedSlots, wrongSystem, strayBlocks, salvageImage, mapChanges, reportAfter}
+use Rattle.salvage.specs.Salvage.{drops, reportOf, survivors, eraseSlots, droppedSlots, wrongSystem, strayBlocks, salvageImage, mapChanges, reportAfter}
 use Rattle.salvage.specs.Lemmas.Judged.{kept-entry, kept-case, dropped-entry, gone-entry}
 use Rattle.salvage.specs.Lemmas.Survivors.{mended-valid, mended-kept, mended-gone, valid-entries, valid-report}
 use Rattle.salvage.specs.Lemmas.Erased.{erase-off}
@@ -136,7 +137,7 @@ module _ (l : Layout) (right : LayoutRight l) (img : List ℕ) (whole : length i
       go (no n) f p = let z : none ≡ some f = sym (salvage-gone s h n) ∙ p in absurd (let o : _≡_ {A = ℕ} 0 1 = cc in omega arith)
 
   -- a dropped slot is as remove leaves it
-  pub salvage-erased : (s : ℕ) → s < l .slots → drops (reportOf l v s) ≡ true → viewOf l (bytes out) .entry s ≡ noEntry
+  pub salvage-erased : (s : ℕ) → s < l .slots → drops (reportOf l v s) ≡ true → viewOf l (bytes out) .entry s ≡ erased (v .entry s)
   salvage-erased s h e = run-mended l right img whole .entry s h ∙ dropped-entry l v s e (l .slots) h
 
   -- ---- map values: every system block of an S1000 disk has the system value, a kept chain's blocks what they had, every other data block 0
@@ -160,8 +161,20 @@ module _ (l : Layout) (right : LayoutRight l) (img : List ℕ) (whole : length i
   pub salvage-valid : Valid l (viewOf l (bytes out))
   salvage-valid = mended-valid l right v (viewOf l (bytes out)) (run-mended l right img whole)
 
-  pub salvage-rules : ((s : ℕ) → s < l .slots → identityAt l (bytes img) s ≡ l .identity) → DiskRules l out
-  salvage-rules kind = record { size = salvage-length ∙ whole; kind = λ s h. salvage-identity s h ∙ kind s h; valid = salvage-valid }
+  -- a first directory that isn't in use stays
+  pub salvage-first : l .second ≡ true → (i : ℕ) → i < mapOffset 0 → bytes out i ≡ bytes img i
+  salvage-first e i h = salvage-outside l img i (λ t. go (touched-where l right img i t))
+    where
+      go : ((s : ℕ) × (s < l .slots) × (drops (reportOf l v s) ≡ true) × InEntry l s i) ⊎ ((b : ℕ) × (b < l .blocks) × InMap b i) → ⊥
+      go (inl p) = omega (arith, p .3 .0, right .second-directory e)
+      go (inr p) = omega (arith, p .2 .0)
+
+  pub salvage-rules : OfKind l (bytes img) → DiskRules l out
+  salvage-rules kind = record {
+    size = salvage-length ∙ whole;
+    kind = kind-kept l right (bytes out) salvage-valid (bytes img) kind (λ e. salvage-first e 16 (omega arith)) (λ e s h. salvage-identity s h ∙ kind .identified e s h);
+    valid = salvage-valid;
+  }
 
   -- ---- the count
 

@@ -71,6 +71,7 @@ fn kind_number(kind: layout::Kind) -> u32
     match kind {
         layout::Kind::S900 => 900,
         layout::Kind::S1000 => 1000,
+        layout::Kind::S3000 => 3000,
     }
 }
 

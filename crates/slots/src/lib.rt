@@ -11,7 +11,7 @@ ghost use Rattle.layout.specs.Right.{LayoutRight};
 ghost use Rattle.view.specs.Disk.{used};
 ghost use Rattle.view.specs.Rules.{malformed, hasNameOf, repeated};
 ghost use Rattle.image.specs.Image.{viewOf};
-ghost use Rattle.rules.specs.Check.{hasIdentity, usedCount};
+ghost use Rattle.rules.specs.Check.{passedOver, hasIdentity, usedCount};
 ghost use Rattle.slots.specs.Keys.{Key, hasKeys};
 ghost use Rattle.slots.specs.Hashes.{hasHashOf, highest, Hash, Tops, Lowers, Turn};
 
@@ -49,6 +49,23 @@ pub fn start_of(head: &[u8], layout: layout::Layout, slot: usize) -> usize
     blocks::number2(head, at + 20)
 }
 
+// Whether the first directory is passed over: its slot 0 has type byte 255 (refusal 2).
+pub fn is_passed_over(head: &[u8]) -> bool
+    requires { ⌜ 17 ≤ length (now head) ⌝ }
+    ensures { λ r. ⌜ r ≡ passedOver (bytes (now (head .entry))) ⌝ }
+{
+    head[16] == 255
+}
+
+// A slot's identity.
+fn identity_of(head: &[u8], layout: layout::Layout, slot: usize) -> usize
+    requires { ⌜ slotOffset layout slot + 24 ≤ length (now head) ⌝ }
+    ensures { λ r. ⌜ r ≡ viewOf layout (bytes (now (head .entry))) .entry slot .identity ⌝ }
+{
+    let at = layout.directory + 24 * slot;
+    blocks::number2(head, at + 22)
+}
+
 // Whether every slot, empty ones too, has the layout's identity (refusal 2).
 pub fn has_identity(head: &[u8], layout: layout::Layout) -> bool
     requires { ⌜ slotOffset layout (layout .slots) ≤ length (now head) ⌝ }
@@ -80,6 +97,9 @@ pub fn is_malformed(head: &[u8], layout: layout::Layout, slot: usize) -> bool
         return true;
     }
     if size_of(head, layout, slot) == 0 {
+        return true;
+    }
+    if identity_of(head, layout, slot) != layout.identity {
         return true;
     }
     let at = layout.directory + 24 * slot;
@@ -131,9 +151,9 @@ pub fn find_keys(head: &[u8], layout: layout::Layout, low: usize, high: usize) -
     requires { ⌜ slotOffset layout (layout .slots) ≤ length (now head) ⌝ }
     ensures { λ r. ⌜ r ≡ lowest (λ s. hasKeys layout (bytes (now (head .entry))) s low high) 0 (layout .slots) ⌝ }
 {
-    let slots = layout.slots;
+    let end = layout.slots;
     let mut slot = 0;
-    while slot < slots {
+    while slot < end {
         if has_keys(head, layout, slot, low, high) {
             return laws::Lowest::At(slot);
         }
@@ -168,9 +188,9 @@ fn pair_fault(head: &[u8], layout: layout::Layout) -> laws::Lowest
     requires { ⌜ LayoutRight layout × (slotOffset layout (layout .slots) ≤ length (now head)) ⌝ }
     ensures { λ r. ⌜ r ≡ lowest (repeated layout (viewOf layout (bytes (now (head .entry))))) 0 (layout .slots) ⌝ }
 {
-    let end = layout.slots;
+    let slots = layout.slots;
     let mut slot = 0;
-    while slot < end {
+    while slot < slots {
         if is_repeated(head, layout, slot) {
             return laws::Lowest::At(slot);
         }
@@ -250,7 +270,7 @@ fn repeats(
 // The lowest slot whose name stands in a lower used slot, by a table of hashes: for each hash the highest slot so far, for each slot the next lower one
 // with its hash. Both stand there plus 1; 0 is none.
 fn hash_fault(head: &[u8], layout: layout::Layout) -> laws::Lowest
-    requires { ⌜ LayoutRight layout × (slotOffset layout (layout .slots) ≤ length (now head)) × (layout .slots ≤ 512) ⌝ }
+    requires { ⌜ LayoutRight layout × (slotOffset layout (layout .slots) ≤ length (now head)) ⌝ }
     ensures { λ r. ⌜ r ≡ lowest (repeated layout (viewOf layout (bytes (now (head .entry))))) 0 (layout .slots) ⌝ }
 {
     let slots = layout.slots;
@@ -280,13 +300,12 @@ fn seems_sparse(head: &[u8], layout: layout::Layout) -> bool
     !is_used(head, layout, 15)
 }
 
-// The lowest slot whose name stands in a lower used slot (refusal 5). The table holds 512 slots; a few files are compared sooner than it is cleared.
+// The lowest slot whose name stands in a lower used slot (refusal 5). A few files are compared in pairs sooner than the table is cleared.
 pub fn name_fault(head: &[u8], layout: layout::Layout) -> laws::Lowest
     requires { ⌜ LayoutRight layout × (slotOffset layout (layout .slots) ≤ length (now head)) ⌝ }
     ensures { λ r. ⌜ r ≡ lowest (repeated layout (viewOf layout (bytes (now (head .entry))))) 0 (layout .slots) ⌝ }
 {
-    let slots = layout.slots;
-    if slots > 512 || seems_sparse(head, layout) {
+    if seems_sparse(head, layout) {
         return pair_fault(head, layout);
     }
     hash_fault(head, layout)

@@ -14,12 +14,13 @@ use Rattle.blocks.specs.Blocks.{linksFor, readBlocks, blocksFor}
 use Rattle.names.specs.Names.{legalArea, legalType, nameOf}
 use Rattle.map.specs.Map.{Data, chain, Chained}
 
--- A directory entry: the name's area, the type, the length and the start block.
+-- A directory entry: the name's area, the type, the length, the start block and the identity.
 pub record Entry : Type 0 where
   pub area : List ℕ
   pub type : ℕ
   pub size : ℕ
   pub start : ℕ
+  pub identity : ℕ
 
 -- A disk: the map value of each block, the entry of each slot, the bytes of each block.
 pub record View : Type 0 where
@@ -37,10 +38,10 @@ pub record File : Type 0 where
 unfoldable pub used : Entry → Bool
 used e = not (eqb (e .type) 0)
 
--- A used slot's form: a legal name area, a legal type, a length of at least 1.
+-- A used slot's form: a legal name area, a legal type, a length of at least 1, the layout's identity.
 unfoldable pub formed : Layout → Entry → Bool
 unfolding legalArea legalType
-formed l e = both (legalArea l (e .area)) (both (legalType l (e .type)) (leb 1 (e .size)))
+formed l e = both (legalArea l (e .area)) (both (legalType l (e .type)) (both (leb 1 (e .size)) (eqb (e .identity) (l .identity))))
 
 -- The blocks of an entry's chain, as many as its length needs.
 unfoldable pub entryChain : (ℕ → ℕ) → Entry → List ℕ

@@ -1,4 +1,5 @@
 -- Lemmas that only proofs use.
+pub mod Formed
 pub mod Kept
 pub mod Counting
 pub mod Head

@@ -22,7 +22,7 @@ use Rattle.layout.specs.Right.{LayoutRight}
 use Rattle.names.specs.Names.{legalName, areaOf, nameOf, capitals}
 use Rattle.names.specs.NameLaws.{length-area, name-back, area-back, capitals-area}
 use Rattle.view.specs.Disk.{used, filesOf}
-use Rattle.view.specs.Lemmas.Put.{formed-area}
+use Rattle.view.specs.Lemmas.Formed.{formed-parts}
 use Rattle.image.specs.Image.{viewOf, filesIn, DiskRules}
 use Rattle.slots.specs.Keys.{Key, hasKeys}
 use Rattle.slots.specs.Lemmas.Keys.{hasArea, keys-area}
@@ -40,7 +40,7 @@ module _ (l : Layout) (right : LayoutRight l) (img : List ℕ) (rules : DiskRule
       (λ h.
       ap (λ (a : List ℕ). same a (e .area)) (sym (capitals-area l name))
       ∙ ap (λ (n : List ℕ). same (areaOf l n) (e .area)) (same-true (capitals l name) (nameOf l (e .area)) h)
-      ∙ ap (λ (a : List ℕ). same a (e .area)) (area-back l right (e .area) (formed-area l e (rules .valid .legal s (i, u))))
+      ∙ ap (λ (a : List ℕ). same a (e .area)) (area-back l right (e .area) (formed-parts l e (rules .valid .legal s (i, u)) .area))
       ∙ same-refl (e .area))
       (λ h.
       ap (λ (a : List ℕ). same (capitals l name) (nameOf l a)) (sym (same-true (areaOf l name) (e .area) h))

@@ -59,7 +59,7 @@ found f =
 -- what is left once they are written and linked and the entry names the first
 left : (l : Layout) (img : List ℕ) (s : ℕ) (area : List ℕ) (type : ℕ) (content : List ℕ) {lent one two three : List ℕ} {start : ℕ} → Lent l img content lent
     → one ≡ writeBlocks img lent content → two ≡ linkBlocks one lent (l .mark) → start ≡ getD lent 0 0
-    → three ≡ setEntry two (slotOffset l s) (entryWith area type (length content) start) → three ≡ putArea l img s area type content
+    → three ≡ setEntry two (slotOffset l s) (entryWith area type (length content) start (l .identity)) → three ≡ putArea l img s area type content
 unfolding putArea fillBlocks chosen
 left l img s area type content {lent} k p q r t = rw (t, q, p, r, ← first-there lent 0 0 (k .some), k .same) refl
 

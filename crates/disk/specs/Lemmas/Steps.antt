@@ -20,7 +20,7 @@ use Rattle.layout.specs.declared.Kind.the-variants.{S900, S1000}
 use Rattle.layout.specs.declared.Density.{Density}
 use Rattle.layout.specs.declared.Density.the-variants.{Low, High}
 use Rattle.layout.specs.declared.Layout.{Layout}
-use Rattle.layout.specs.Layouts.{layoutOf, lengthOf, blockOffset, slotOffset}
+use Rattle.layout.specs.Layouts.{layoutOf, lengthOf, headLength, blockOffset, slotOffset}
 use Rattle.layout.specs.Right.{LayoutRight, layout-right}
 use Rattle.map.specs.Map.{mapAt, freeCount}
 use Rattle.view.specs.declared.Ruled.{Ruled}
@@ -32,9 +32,8 @@ use Rattle.view.specs.Rules.{rules, badSystem, malformed, repeated}
 use Rattle.rules.specs.declared.Checked.the-variants.{Accepted, Refused}
 use Rattle.rules.specs.declared.Known.{Known}
 use Rattle.rules.specs.declared.Known.the-variants.{Disk, Unknown}
-use Rattle.rules.specs.Check.{densityOf, hasIdentity, knownKind, knownHead, knownStart, usedCount, checkAs, checkStart}
+use Rattle.rules.specs.Check.{orUnknown, densityOf, passedOver, secondKind, hasIdentity, knownKind, knownHead, knownStart, usedCount, checkAs, checkStart}
 use Rattle.rules.specs.Lemmas.Steps.{as-passed, as-failed}
-use Rattle.rules.specs.Head.{head-holds}
 use Rattle.image.specs.Image.{viewOf}
 use Rattle.chains.specs.Passes.{chainRules}
 
@@ -62,14 +61,14 @@ module _ (l : Layout) (v : View) where
 
 -- ---- the kind and the length
 
--- a layout that the code made: it is right, and its directory and system blocks lie in a head of 5,120 bytes
+-- a layout that the code made: it is right, and its directory and system blocks lie in a head of 17,408 bytes
 module _ (k : Kind) (d : Density) {l : Layout} (made : l ≡ layoutOf k d) where
   pub made-right : LayoutRight l
   made-right = rw made (layout-right k d)
 
-  module _ {n : ℕ} (long : 5120 ≤ n) where
+  module _ {n : ℕ} (long : headLength ≤ n) where
     pub first-held : blockOffset (l .first) ≤ n
-    first-held = let e = head-holds k d in rw made (omega arith)
+    first-held = omega (arith, made-right .head-holds)
 
     pub directory-held : slotOffset l (l .slots) ≤ n
     directory-held = let e = made-right .directory-low in let f = first-held in omega arith
@@ -82,47 +81,52 @@ module _ (k : Kind) (d : Density) {l : Layout} (made : l ≡ layoutOf k d) where
     pub as-fail : {w : Refusal} → r ≡ Fail w → Refused w ≡ checkAs k d b
     as-fail t = sym (as-failed b d k (rw made at (sym ruled ∙ t)))
 
-module _ (d : Density) (b : ℕ → ℕ) where
-  pub kinds-900 : {r : Bool} → r ≡ hasIdentity (layoutOf S900 d) b → r ≡ true → Disk S900 d ≡ knownKind d b
+module _ (d : Density) (b : ℕ → ℕ) {over : Bool} (first : over ≡ passedOver b) where
+  pub kinds-over : {x : Known} → over ≡ true → x ≡ orUnknown (secondKind d) 2 (λ k. Disk k d) → x ≡ knownKind d b
   unfolding knownKind
-  kinds-900 e t = rw (sym e ∙ t) refl
+  kinds-over t e = rw (sym first ∙ t) e
 
-  module _ {r : Bool} (e : r ≡ hasIdentity (layoutOf S900 d) b) (t : r ≡ false) {q : Bool} (f : q ≡ hasIdentity (layoutOf S1000 d) b) where
-    pub kinds-1000 : q ≡ true → Disk S1000 d ≡ knownKind d b
+  module _ (own : over ≡ false) where
+    pub kinds-900 : {r : Bool} → r ≡ hasIdentity (layoutOf S900 d) b → r ≡ true → Disk S900 d ≡ knownKind d b
     unfolding knownKind
-    kinds-1000 u = rw (sym e ∙ t, sym f ∙ u) refl
+    kinds-900 e t = rw (sym first ∙ own, sym e ∙ t) refl
 
-    pub kinds-neither : q ≡ false → Unknown (refusalAt 2 0) ≡ knownKind d b
-    unfolding knownKind
-    kinds-neither u = rw (sym e ∙ t, sym f ∙ u) refl
+    module _ {r : Bool} (e : r ≡ hasIdentity (layoutOf S900 d) b) (t : r ≡ false) {q : Bool} (f : q ≡ hasIdentity (layoutOf S1000 d) b) where
+      pub kinds-1000 : q ≡ true → Disk S1000 d ≡ knownKind d b
+      unfolding knownKind
+      kinds-1000 u = rw (sym first ∙ own, sym e ∙ t, sym f ∙ u) refl
+
+      pub kinds-neither : q ≡ false → Unknown (refusalAt 2 0) ≡ knownKind d b
+      unfolding knownKind
+      kinds-neither u = rw (sym first ∙ own, sym e ∙ t, sym f ∙ u) refl
 
 module _ (head : List ℕ) (size : ℕ) where
-  none-by : size < 5120 → densityOf size ≡ none
+  none-by : size < headLength → densityOf size ≡ none
   unfolding densityOf
   none-by h = rw (ne-eqb size (lengthOf Low) (λ e. omega arith), ne-eqb size (lengthOf High) (λ e. omega arith)) refl
 
   -- a head that is short: it isn't all that it could be, or the image itself is short
-  pub start-short : length head < 5120 → Unknown (refusalAt 1 0) ≡ knownStart head size
+  pub start-short : length head < headLength → Unknown (refusalAt 1 0) ≡ knownStart head size
   unfolding knownStart knownHead
-  start-short h = go (ltb (length head) (min size 5120)) refl
+  start-short h = go (ltb (length head) (min size headLength)) refl
     where
-      go : (t : Bool) → ltb (length head) (min size 5120) ≡ t → Unknown (refusalAt 1 0) ≡ pick (ltb (length head) (min size 5120)) (Unknown (refusalAt 1 0)) (knownHead size (bytes head))
+      go : (t : Bool) → ltb (length head) (min size headLength) ≡ t → Unknown (refusalAt 1 0) ≡ pick (ltb (length head) (min size headLength)) (Unknown (refusalAt 1 0)) (knownHead size (bytes head))
       go true e = rw e refl
-      go false e = rw (e, none-by (omega (arith, ltb-false (length head) (min size 5120) e))) refl
+      go false e = rw (e, none-by (omega (arith, ltb-false (length head) (min size headLength) e))) refl
 
-  module _ (long : 5120 ≤ length head) where
+  module _ (long : headLength ≤ length head) where
     pub start-low : size ≡ lengthOf Low → knownKind Low (bytes head) ≡ knownStart head size
     unfolding knownStart knownHead densityOf
-    start-low e = rw (le-ltb (length head) (min size 5120) (omega arith), eq-eqb size (lengthOf Low) e) refl
+    start-low e = rw (le-ltb (length head) (min size headLength) (omega arith), eq-eqb size (lengthOf Low) e) refl
 
     pub start-high : size ≡ lengthOf High → knownKind High (bytes head) ≡ knownStart head size
     unfolding knownStart knownHead densityOf
     start-high e =
-        rw (le-ltb (length head) (min size 5120) (omega arith), ne-eqb size (lengthOf Low) (λ z. omega arith), eq-eqb size (lengthOf High) e) refl
+        rw (le-ltb (length head) (min size headLength) (omega arith), ne-eqb size (lengthOf Low) (λ z. omega arith), eq-eqb size (lengthOf High) e) refl
 
     pub start-none : (size ≡ lengthOf Low → ⊥) → (size ≡ lengthOf High → ⊥) → Unknown (refusalAt 1 0) ≡ knownStart head size
     unfolding knownStart knownHead densityOf
-    start-none p q = rw (le-ltb (length head) (min size 5120) (omega arith), ne-eqb size (lengthOf Low) p, ne-eqb size (lengthOf High) q) refl
+    start-none p q = rw (le-ltb (length head) (min size headLength) (omega arith), ne-eqb size (lengthOf Low) p, ne-eqb size (lengthOf High) q) refl
 
   -- ---- the check, by what is known
 
@@ -136,9 +140,9 @@ module _ (head : List ℕ) (size : ℕ) where
     start-disk e = rw (← known, e) refl
 
     -- a disk that is known has a whole head
-    pub start-long : {k : Kind} {d : Density} → x ≡ Disk k d → 5120 ≤ length head
-    start-long {k} {d} e = go (decLt (length head) 5120)
+    pub start-long : {k : Kind} {d : Density} → x ≡ Disk k d → headLength ≤ length head
+    start-long {k} {d} e = go (decLt (length head) headLength)
       where
-        go : Dec (length head < 5120) → 5120 ≤ length head
+        go : Dec (length head < headLength) → headLength ≤ length head
         go (no h) = omega arith
         go (yes h) = let z : Unknown (refusalAt 1 0) ≡ Disk k d = start-short h ∙ sym known ∙ e in absurd (let o : _≡_ {A = ℕ} 0 1 = cc in omega arith)

@@ -4,7 +4,7 @@ use mathlib.Core.Path.{_≡_, refl, ap, _∙_}
 use mathlib.Core.List.{List}
 use mathlib.Core.Logic.{_⊎_, inl, inr}
 use Prim.Native.Nat.{ℕ, _+_, _*_, _≤_, _<_}
-use native.Mathlib.Decide.{decLt}
+use native.Mathlib.Decide.{decLt, ℕ-discrete}
 use native.Mathlib.Omega.{arith}
 use lib.ListN.{length, take, replicate}
 use Rattle.laws.specs.Splice.{splice}
@@ -25,8 +25,8 @@ use Rattle.map.specs.Lemmas.Linking.{length-link, link-other, link-outside, lin
 use Rattle.view.specs.Disk.{Entry, entryChain}
 use Rattle.view.specs.Lemmas.Remove.{Removed}
 use Rattle.view.specs.Lemmas.Put.{Stored}
-use Rattle.image.specs.Image.{entryAt, identityAt, viewOf, eraseEntry, removeImage, entryBytes, setEntry, fillBlocks}
-use Rattle.image.specs.Lemmas.Entries.{entry-cong, erased-type, length-entry, entry-same}
+use Rattle.image.specs.Image.{entryAt, identityAt, viewOf, erased, eraseEntry, removeImage, entryBytes, setEntry, fillBlocks}
+use Rattle.image.specs.Lemmas.Entries.{entry-cong, erased-entry, length-entry, entry-same}
 
 module _ (l : Layout) (right : LayoutRight l) where
   -- ---- where things lie
@@ -41,13 +41,14 @@ module _ (l : Layout) (right : LayoutRight l) where
   pub data-outside : (b i : ℕ) → Data l b → blockOffset b ≤ i → Outside (l .blocks) i
   data-outside b i d p = inr (omega (arith, right .map-low, d .0))
 
-  -- ---- a write of a slot's 22 bytes leaves the map, other slots, all identities and the data blocks
+  -- ---- a write to a slot leaves the map, other slots, what lies below the directory, and the data blocks
 
-  module _ (img : List ℕ) (s : ℕ) (vs : List ℕ) (slot : s < l .slots) (short : length vs ≡ 22) where
-    off : (i : ℕ) → (i < slotOffset l s) ⊎ (slotOffset l s + 22 ≤ i) → bytes (splice img (slotOffset l s) vs) i ≡ bytes img i
-    off i h = splice-off img (slotOffset l s) vs i (rw short h)
+  module _ (img : List ℕ) (s : ℕ) (vs : List ℕ) (slot : s < l .slots) (short : length vs ≤ 24) where
+    pub off : (i : ℕ) → (i < slotOffset l s) ⊎ (slotOffset l s + 24 ≤ i) → bytes (splice img (slotOffset l s) vs) i ≡ bytes img i
+    off i (inl h) = splice-off img (slotOffset l s) vs i (inl h)
+    off i (inr h) = splice-off img (slotOffset l s) vs i (inr (omega arith))
 
-    map-apart : (k i : ℕ) → DirectoryApart l → k < l .blocks → mapOffset k ≤ i → i < mapOffset k + 2 → (i < slotOffset l s) ⊎ (slotOffset l s + 22 ≤ i)
+    map-apart : (k i : ℕ) → DirectoryApart l → k < l .blocks → mapOffset k ≤ i → i < mapOffset k + 2 → (i < slotOffset l s) ⊎ (slotOffset l s + 24 ≤ i)
     map-apart k i (inl h) c p q = inr (omega arith)
     map-apart k i (inr h) c p q = inl (omega arith)
 
@@ -56,22 +57,13 @@ module _ (l : Layout) (right : LayoutRight l) where
         number-cong 2 (bytes img) (bytes (splice img (slotOffset l s) vs)) (mapOffset k) (λ i p q. off i (map-apart k i (right .directory-apart) h p q))
 
     -- the bytes of another slot
-    slot-apart : (t i : ℕ) → Dec (t < s) → (t ≡ s → ⊥) → slotOffset l t ≤ i → i < slotOffset l t + 24 → (i < slotOffset l s) ⊎ (slotOffset l s + 22 ≤ i)
+    slot-apart : (t i : ℕ) → Dec (t < s) → (t ≡ s → ⊥) → slotOffset l t ≤ i → i < slotOffset l t + 24 → (i < slotOffset l s) ⊎ (slotOffset l s + 24 ≤ i)
     slot-apart t i (yes h) n p q = inl (omega arith)
     slot-apart t i (no h) n p q = inr (omega arith)
 
     pub entry-after : (t : ℕ) → (t ≡ s → ⊥) → entryAt (bytes (splice img (slotOffset l s) vs)) (slotOffset l t) ≡ entryAt (bytes img) (slotOffset l t)
     entry-after t n =
         entry-cong (bytes img) (bytes (splice img (slotOffset l s) vs)) (slotOffset l t) (λ i p q. off i (slot-apart t i (decLt t s) n p (omega arith)))
-
-    -- the last two bytes of any slot
-    identity-apart : (t i : ℕ) → Dec (t < s) → slotOffset l t + 22 ≤ i → i < slotOffset l t + 22 + 2 → (i < slotOffset l s) ⊎ (slotOffset l s + 22 ≤ i)
-    identity-apart t i (yes h) p q = inl (omega arith)
-    identity-apart t i (no h) p q = inr (omega arith)
-
-    pub identity-after : (t : ℕ) → identityAt l (bytes (splice img (slotOffset l s) vs)) t ≡ identityAt l (bytes img) t
-    identity-after t =
-        number-cong 2 (bytes img) (bytes (splice img (slotOffset l s) vs)) (slotOffset l t + 22) (λ i p q. off i (identity-apart t i (decLt t s) p q))
 
     pub block-after : (b : ℕ) → Data l b → blockAt (bytes (splice img (slotOffset l s) vs)) b ≡ blockAt (bytes img) b
     block-after b d =
@@ -84,8 +76,8 @@ module _ (l : Layout) (right : LayoutRight l) where
     abbrev freed : List ℕ
     freed = entryChain (mapAt (bytes img)) (entryAt (bytes img) (slotOffset l s))
 
-    zeros : length {A = ℕ} (replicate 22 0) ≡ 22
-    zeros = refl
+    zeros : length {A = ℕ} (replicate 22 0) ≤ 24
+    zeros = omega arith
 
     freed-below : (b : ℕ) → In b freed → b < l .blocks
     freed-below b i = inside b i .1
@@ -93,13 +85,21 @@ module _ (l : Layout) (right : LayoutRight l) where
     freed-dir : (t i : ℕ) → t < l .slots → slotOffset l t ≤ i → i < slotOffset l t + 24 → bytes (setAll img freed 0) i ≡ bytes img i
     freed-dir t i h p q = set-all-outside img freed 0 (l .blocks) i freed-below (dir-outside t i h p q)
 
+    -- the slot shows zeros and its identity
+    pub remove-entry : entryAt (bytes (removeImage l img s)) (slotOffset l s) ≡ erased (entryAt (bytes img) (slotOffset l s))
+    unfolding removeImage
+    remove-entry =
+        let one = setAll img freed 0 in
+        erased-entry one (slotOffset l s) (omega (arith, length-set-all img freed 0, right .directory-low, right .data-some))
+        ∙ ap erased (entry-cong (bytes img) (bytes one) (slotOffset l s) (λ i p q. freed-dir s i slot p (omega arith)))
+
     pub removed : Removed l (viewOf l (bytes img)) s (viewOf l (bytes (removeImage l img s)))
     unfolding removeImage eraseEntry
     removed =
         let one = setAll img freed 0 in
         let n : length one ≡ length img = length-set-all img freed 0 in
         record {
-          gone = erased-type one (slotOffset l s) (omega (arith, right .directory-low, right .data-some));
+          gone = ap (λ (e : Entry). e .type) (unfold eraseEntry in remove-entry);
           kept = λ t h ne.
               entry-after one s (replicate 22 0) slot zeros t ne
               ∙ entry-cong (bytes img) (bytes one) (slotOffset l t) (λ i p q. freed-dir t i h p (omega arith));
@@ -115,23 +115,33 @@ module _ (l : Layout) (right : LayoutRight l) where
     remove-length = length-splice (setAll img freed 0) (slotOffset l s) (replicate 22 0) ∙ length-set-all img freed 0
 
     pub remove-identity : (t : ℕ) → t < l .slots → identityAt l (bytes (removeImage l img s)) t ≡ identityAt l (bytes img) t
+    unfolding entryAt
+    remove-identity t h = go (ℕ-discrete t s)
+      where
+        go : Dec (t ≡ s) → identityAt l (bytes (removeImage l img s)) t ≡ identityAt l (bytes img) t
+        go (yes e) = rw e (ap (λ (x : Entry). x .identity) remove-entry)
+        go (no n) = ap (λ (x : Entry). x .identity) (removed .kept t h n)
+
+    -- what lies below directory and map
+    pub remove-low : (i : ℕ) → i < l .directory → i < mapOffset 0 → bytes (removeImage l img s) i ≡ bytes img i
     unfolding removeImage eraseEntry
-    remove-identity t h =
-        identity-after (setAll img freed 0) s (replicate 22 0) slot zeros t
-        ∙ number-cong 2 (bytes img) (bytes (setAll img freed 0)) (slotOffset l t + 22) (λ i p q. freed-dir t i h (omega arith) (omega arith))
+    remove-low i h k = off (setAll img freed 0) s (replicate 22 0) slot zeros i (inl (omega arith)) ∙ set-all-outside img freed 0 (l .blocks) i freed-below (inl k)
 
   -- ---- put
 
   module _ (img : List ℕ) (whole : length img ≡ imageLength l) (s : ℕ) (slot : s < l .slots) (e : Entry) (area : length (e .area) ≡ 16)
-      (size : e .size < 16777216) (start : e .start < 65536) (ks content : List ℕ) (distinct : Distinct ks) (inside : (b : ℕ) → In b ks → Data l b)
+      (size : e .size < 16777216) (start : e .start < 65536) (own : e .identity < 65536) (ks content : List ℕ) (distinct : Distinct ks) (inside : (b : ℕ) → In b ks → Data l b)
       (enough : length content ≤ 1024 * length ks) where
+    short : length (entryBytes e) ≤ 24
+    short = omega (arith, length-entry e area)
+
     put-below : (b : ℕ) → In b ks → b < l .blocks
     put-below b i = inside b i .1
 
     abbrev full : List ℕ
     full = fillBlocks l img ks content
 
-    length-full : length full ≡ length img
+    pub length-full : length full ≡ length img
     unfolding fillBlocks
     length-full = length-link (writeBlocks img ks content) ks (l .mark) ∙ length-write img ks content
 
@@ -162,19 +172,19 @@ module _ (l : Layout) (right : LayoutRight l) where
     pub stored : Stored l (viewOf l (bytes img)) s e ks content (viewOf l (bytes (setEntry full (slotOffset l s) e)))
     unfolding setEntry
     stored = record {
-      made = entry-same e area full (slotOffset l s) (omega (arith, length-full, right .directory-low, right .data-some)) size start;
+      made = entry-same e area full (slotOffset l s) (omega (arith, length-full, right .directory-low, right .data-some)) size start own;
       kept = λ t h ne.
-          entry-after full s (entryBytes e) slot (length-entry e area) t ne
+          entry-after full s (entryBytes e) slot short t ne
           ∙ entry-cong (bytes img) (bytes full) (slotOffset l t) (λ i p q. full-dir i (omega (arith, right .directory-low)) (dir-outside t i h p (omega arith)));
       linked =
           linked-cong (mapAt (bytes full)) (mapAt (bytes (setEntry full (slotOffset l s) e))) ks (l .mark)
-          (λ b i. map-after full s (entryBytes e) slot (length-entry e area) b (put-below b i)) full-linked;
-      other = λ b h o. map-after full s (entryBytes e) slot (length-entry e area) b h ∙ full-map b h o;
-      block = λ b d o. block-after full s (entryBytes e) slot (length-entry e area) b d ∙ full-written b d ∙ write-other img ks content b o;
+          (λ b i. map-after full s (entryBytes e) slot short b (put-below b i)) full-linked;
+      other = λ b h o. map-after full s (entryBytes e) slot short b h ∙ full-map b h o;
+      block = λ b d o. block-after full s (entryBytes e) slot short b d ∙ full-written b d ∙ write-other img ks content b o;
       bytes =
           ap (take (length content))
           (read-cong (blockAt (bytes (writeBlocks img ks content))) (blockAt (bytes (setEntry full (slotOffset l s) e))) ks
-          (λ b i. block-after full s (entryBytes e) slot (length-entry e area) b (inside b i) ∙ full-written b (inside b i))
+          (λ b i. block-after full s (entryBytes e) slot short b (inside b i) ∙ full-written b (inside b i))
           ∙ write-read img ks content (l .blocks) distinct put-below (omega arith) enough)
           ∙ take-padded content (1024 * length ks);
     }
@@ -183,9 +193,6 @@ module _ (l : Layout) (right : LayoutRight l) where
     unfolding setEntry
     put-length = length-splice full (slotOffset l s) (entryBytes e) ∙ length-full
 
-    pub put-identity : (t : ℕ) → t < l .slots → identityAt l (bytes (setEntry full (slotOffset l s) e)) t ≡ identityAt l (bytes img) t
+    pub put-low : (i : ℕ) → i < l .directory → i < mapOffset 0 → bytes (setEntry full (slotOffset l s) e) i ≡ bytes img i
     unfolding setEntry
-    put-identity t h =
-        identity-after full s (entryBytes e) slot (length-entry e area) t
-        ∙ number-cong 2 (bytes img) (bytes full) (slotOffset l t + 22)
-        (λ i p q. full-dir i (omega (arith, right .directory-low)) (dir-outside t i h (omega arith) (omega arith)))
+    put-low i h k = off full s (entryBytes e) slot short i (inl (omega arith)) ∙ full-dir i (omega (arith, right .map-low)) (inl k)

@@ -3,7 +3,7 @@
 use mathlib.Core.Path.{_∙_, sym, ap, ap₂}
 use borrow.Author.Needs.{needs}
 use Rattle.layout.specs.declared.Kind.{Kind}
-use Rattle.layout.specs.Layouts.{layoutOf, s900, s1000}
+use Rattle.layout.specs.Layouts.{layoutOf, s900, s1000, s3000}
 use Rattle.layout.proofs.layout_of.Statement.{statement}
 use Rattle.layout.proofs.layout_of.Tie as tie
 
@@ -21,6 +21,11 @@ returns-2 c =
     ∙ ap₂ s1000 (c .before .before .before .before .blocks-of .ensures) (c .before .before .before .first-of .ensures)
     ∙ ap (λ (k : Kind). layoutOf k d) (sym (c .before .enum-told2 .given .1))
 
+returns-3 : tie.Need-returns-3
+returns-3 c =
+    let d = c .before .before .before .before .before .args .density in
+    c .s3000-layout .ensures ∙ ap s3000 (c .before .before .before .before .blocks-of .ensures) ∙ ap (λ (k : Kind). layoutOf k d) (sym (c .before .enum-told3 .given .1))
+
 pub layout-of-spec : {M : Type 1} → statement M
 layout-of-spec =
     tie.close
@@ -31,5 +36,8 @@ layout-of-spec =
     (λ c κs. search needs)
     (λ c. search needs)
     (λ c κs. search needs)
+    (λ c. search needs)
+    (λ c κs. search needs)
     returns
-    returns-2)
+    returns-2
+    returns-3)

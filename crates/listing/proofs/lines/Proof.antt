@@ -24,7 +24,7 @@ put-slots-requires c κs =
     let k = l .before .before .before .before .before in
     let a = k .before .before .args in
     let r = accepted-directory (now (a .head)) (a .length) (k .check-head .ensures) (d .before .before .checked .given .1) (d .layout-of .ensures) in
-    (r .0, r .1, r .2, omega arith)
+    (r .0, r .1, omega arith)
 
 returns-2 : tie.Need-returns-2
 returns-2 c =

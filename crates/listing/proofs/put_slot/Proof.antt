@@ -1,5 +1,5 @@
 -- `listing::put_slot` meets its contract: nothing of an empty slot, and of a used one the slot's number and what list answers.
--- The slot is below 64, so its number has at most two digits. Assumes nothing.
+-- The slot is below 512, so its number has at most three digits. Assumes nothing.
 use native.Mathlib.Omega.{arith}
 use borrow.Author.Needs.{needs}
 use borrow.Author.Tests.{not-true, not-false}
@@ -14,7 +14,7 @@ returns : tie.Need-returns
 unfolding slotLine
 returns c =
     let a = c .before .before .before .args in
-    rw (slot-empty (a .layout) (now (a .head)) (a .slot) (c .before .is-used .ensures) (not-true _ (c .if1 .taken))) (puts-near puts-none 46 (omega arith))
+    rw (slot-empty (a .layout) (now (a .head)) (a .slot) (c .before .is-used .ensures) (not-true _ (c .if1 .taken))) (puts-near puts-none 47 (omega arith))
 
 returns-2 : tie.Need-returns-2
 unfolding slotLine
@@ -25,7 +25,7 @@ returns-2 c =
     let u = z .before .before .before .before .before in
     let s = u .before .before .before in
     let a = s .args in
-    let number = puts-near (n .put-number .ensures) 7 (omega (arith, n .put-number .ensures .count, decimal-short 1 (a .slot) (omega (arith, s .pre .2)))) in
+    let number = puts-near (n .put-number .ensures) 8 (omega (arith, n .put-number .ensures .count, decimal-short 2 (a .slot) (omega (arith, s .pre .2)))) in
     rw (slot-used (a .layout) (now (a .head)) (a .slot) (u .before .is-used .ensures) (s .pre .0) (s .pre .1) (not-false _ (u .if1 .left)) (z .before .type-of .ensures) (z .size-of .ensures) (z .before .before .name-of .ensures))
     (puts-then (puts-then number (p .put .ensures)) (c .put-file .ensures))
 

@@ -1,5 +1,5 @@
--- `listing::put_slots` meets its contract: the lines of the slots below 64, in order.
--- The invariant: the output holds those of the slots passed, of at most 46 bytes each. Assumes nothing.
+-- `listing::put_slots` meets its contract: the lines of the layout's slots, in order.
+-- The invariant: the output holds those of the slots passed, of at most 47 bytes each. Assumes nothing.
 use mathlib.Core.Path.{_≡_}
 use Prim.Native.Nat.{suc, _*_, _-_, _≤_}
 use native.Mathlib.Numerals.{add-one}
@@ -15,7 +15,7 @@ use Rattle.listing.proofs.put_slots.Tie as tie
 
 abbrev Inv-loop : tie.InvT-loop
 Inv-loop head layout out₀ at slots next₀ slot₀ out next slot =
-    (slot ≤ 64) × Puts (46 * slot) (slotLines (slotAnswer layout (bytes head)) slot) at out₀ out next
+    (slot ≤ slots) × Puts (47 * slot) (slotLines (slotAnswer layout (bytes head)) slot) at out₀ out next
 
 abbrev μ-loop : tie.MeasureT-loop
 μ-loop head layout out₀ at slots next₀ slot₀ out next slot = slots - slot
@@ -29,10 +29,14 @@ unfolding slotLines
 loop-again c =
     let l = c .before .before .before .loop in
     let p = puts-then (l .inv .1) (c .put-slot .ensures) in
-    (omega arith, rw (add-one (l .slot)) (puts-near p (46 * suc (l .slot)) (omega (arith, p .near))))
+    (omega arith, rw (add-one (l .slot)) (puts-near p (47 * suc (l .slot)) (omega (arith, p .near))))
 
 returns : tie.Need-returns Inv-loop μ-loop
-returns c = let l = c .before .loop in let e : l .slot ≡ 64 = omega arith in rw e at (l .inv .1)
+returns c =
+    let l = c .before .loop in
+    let s = c .before .before .before in
+    let e : l .slot ≡ s .args .layout .slots = omega arith in
+    rw e at (puts-near (l .inv .1) 24064 (omega (arith, l .inv .1 .near, s .pre .0 .slots-few)))
 
 pub put-slots-spec : {M : Type 1} → statement M
 put-slots-spec =

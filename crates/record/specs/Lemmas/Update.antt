@@ -7,15 +7,16 @@ use mathlib.Core.Option.{Option, none, some}
 use Prim.Native.Nat.{ℕ, _+_, _-_, _≤_, _<_}
 use native.Mathlib.Decide.{decLt, ℕ-discrete}
 use native.Mathlib.Omega.{arith}
-use lib.Dec.{leb, eqb}
-use lib.ListN.{length}
+use lib.Dec.{eqb}
+use lib.ListN.{length, getD}
 use lib.Seq.{length-take-le}
-use borrow.Author.Tests.{eqb-false, eq-eqb, ne-eqb, lt-ltb, ltb-false, le-leb, not-true}
-use Rattle.laws.specs.Truth.{pick, both}
-use Rattle.laws.specs.Lemmas.Truth.{true-both, clash}
+use borrow.Author.Tests.{eqb-false, eq-eqb, ne-eqb, lt-ltb, ltb-false, not-true}
+use Rattle.laws.specs.Truth.{pick}
+use Rattle.laws.specs.Lemmas.Truth.{clash}
 use Rattle.laws.specs.Lemmas.Scan.{at→, nowhere→}
 use Rattle.laws.specs.Scan.{total}
 use Rattle.laws.specs.Lemmas.Lists.{same-refl}
+use Rattle.laws.specs.Lemmas.Splice.{getD-splice-in}
 use Rattle.laws.specs.Reader.{bytes}
 use Rattle.laws.specs.Lemmas.Reader.{length-tab}
 use Rattle.laws.specs.Member.{In, Distinct}
@@ -23,19 +24,24 @@ use Rattle.laws.specs.Lemmas.Member.{in-take, distinct-take}
 use Rattle.layout.specs.declared.Layout.{Layout}
 use Rattle.layout.specs.Layouts.{slotOffset, blockOffset}
 use Rattle.layout.specs.Right.{LayoutRight}
+use Rattle.blocks.specs.Numbers.{number, digits}
+use Rattle.blocks.specs.Lemmas.Numbers.{length-digits, digits-over}
 use Rattle.blocks.specs.Blocks.{blocksFor}
-use Rattle.names.specs.Names.{legalType, legalArea, areaOf, nameOf, capitals}
+use Rattle.names.specs.Names.{areaOf, nameOf, capitals}
 use Rattle.names.specs.NameLaws.{length-area, area-legal, name-back}
 use Rattle.map.specs.Map.{Data, mapAt, freeBlocks, freeCount}
 use Rattle.map.specs.Lemmas.Free.{in-free, free-distinct, free-count}
 use Rattle.map.specs.Lemmas.Linking.{first-below}
-use Rattle.view.specs.Disk.{Entry, View, File, used, formed, entryChain, fileOf, filesOf, Used, takes}
+use Rattle.view.specs.Disk.{Entry, View, File, used, formed, entryChain, fileOf, filesOf, Used, Valid, takes}
+use Rattle.view.specs.Lemmas.Formed.{parts-formed}
 use Rattle.view.specs.Lemmas.Kept.{file-at, file-out, owned-data}
 use Rattle.view.specs.Lemmas.Counting.{free-blocks}
 use Rattle.view.specs.Lemmas.Remove.{Removed, remove-valid, remove-gone, remove-others}
 use Rattle.view.specs.Lemmas.Put.{Fresh, Stored, put-valid, put-here, put-others}
-use Rattle.image.specs.Image.{entryAt, viewOf, filesIn, DiskRules, removeImage, chosen, newEntry, putImage}
-use Rattle.image.specs.Lemmas.Effect.{removed, remove-length, remove-identity, stored, put-length, put-identity}
+use Rattle.image.specs.Image.{entryAt, identityAt, viewOf, filesIn, DiskRules, removeImage, chosen, newEntry, fillBlocks, putImage}
+use Rattle.image.specs.Lemmas.Effect.{removed, remove-length, remove-identity, remove-low, stored, length-full, put-length, put-low}
+use Rattle.image.specs.Lemmas.Entries.{identity-byte}
+use Rattle.image.specs.Lemmas.Kinds.{kind-kept}
 use Rattle.record.specs.Record.{named, keptFile, isEmpty, replaced, slotOf, emptySlot, free, judgeName, judgePut}
 use Rattle.record.specs.declared.Judged.the-variants.{Grant}
 use Rattle.record.specs.Lemmas.Granted.{Puts, granted-name, granted-put}
@@ -105,9 +111,15 @@ module _ (l : Layout) (right : LayoutRight l) (img : List ℕ) (rules : DiskRule
     pub remove-rules : DiskRules l (removeImage l img s)
     remove-rules = record {
       size = remove-length l right img (rules .size) s (remove-slot .0) remove-inside ∙ rules .size;
-      kind = λ t h. remove-identity l right img (rules .size) s (remove-slot .0) remove-inside t h ∙ rules .kind t h;
-      valid = remove-valid l right (viewOf l (bytes img)) (viewOf l (bytes (removeImage l img s))) s (rules .valid) remove-slot remove-effect;
+      kind =
+          kind-kept l right (bytes (removeImage l img s)) valid-after (bytes img) (rules .kind)
+          (λ e. remove-low l right img (rules .size) s (remove-slot .0) remove-inside 16 (omega (arith, right .second-directory e)) (omega arith))
+          (λ e t h. remove-identity l right img (rules .size) s (remove-slot .0) remove-inside t h ∙ rules .kind .identified e t h);
+      valid = valid-after;
     }
+      where
+        valid-after : Valid l (viewOf l (bytes (removeImage l img s)))
+        valid-after = remove-valid l right (viewOf l (bytes img)) (viewOf l (bytes (removeImage l img s))) s (rules .valid) remove-slot remove-effect
 
     pub remove-files : (t : ℕ) → filesIn l (removeImage l img s) t ≡ replaced (filesIn l img) s none t
     remove-files =
@@ -175,11 +187,13 @@ module _ (l : Layout) (right : LayoutRight l) (img : List ℕ) (rules : DiskRule
     unfolding newEntry
     new-size = content-short
 
+    new-own : new .identity < 65536
+    unfolding newEntry
+    new-own = right .identity-word
+
     new-formed : formed l new ≡ true
-    unfolding formed newEntry
-    new-formed =
-        true-both (legalArea l (areaOf l name)) (both (legalType l type) (leb 1 (length content))) (area-legal l right name (passed .name-legal))
-        (true-both (legalType l type) (leb 1 (length content)) (passed .type-legal) (le-leb 1 (length content) content-some))
+    unfolding newEntry
+    new-formed = parts-formed l new (record { area = area-legal l right name (passed .name-legal); type = passed .type-legal; size = content-some; own = refl })
 
     -- no file has the name
     new-name : (t : ℕ) → Used l (viewOf l (bytes img)) t → entryAt (bytes img) (slotOffset l t) .area ≡ new .area → ⊥
@@ -207,19 +221,48 @@ module _ (l : Layout) (right : LayoutRight l) (img : List ℕ) (rules : DiskRule
     pub put-effect : Stored l (viewOf l (bytes img)) s new ks content (viewOf l (bytes after))
     unfolding putImage
     put-effect =
-        stored l right img (rules .size) s (put-slot .0) new area-length new-size new-start ks content chosen-distinct chosen-inside (omega (arith, length-chosen))
+        stored l right img (rules .size) s (put-slot .0) new area-length new-size new-start new-own ks content chosen-distinct chosen-inside (omega (arith, length-chosen))
+
+    -- the slot has the layout's identity, and every other what it had
+    own-after : l .second ≡ false → (t : ℕ) → t < l .slots → identityAt l (bytes after) t ≡ l .identity
+    unfolding entryAt newEntry
+    own-after e t h = go (ℕ-discrete t s)
+      where
+        go : Dec (t ≡ s) → identityAt l (bytes after) t ≡ l .identity
+        go (yes p) = rw p (ap (λ (x : Entry). x .identity) (put-effect .made))
+        go (no n) = ap (λ (x : Entry). x .identity) (put-effect .kept t h n) ∙ rules .kind .identified e t h
+
+    low-after : l .second ≡ true → bytes after 16 ≡ bytes img 16
+    unfolding putImage
+    low-after e =
+        put-low l right img (rules .size) s (put-slot .0) new area-length new-size new-start new-own ks content chosen-distinct chosen-inside (omega (arith, length-chosen)) 16
+        (omega (arith, right .second-directory e)) (omega arith)
 
     pub put-rules : DiskRules l after
-    unfolding putImage
     put-rules = record {
       size =
-          put-length l right img (rules .size) s (put-slot .0) new area-length new-size new-start ks content chosen-distinct chosen-inside (omega (arith, length-chosen))
+          unfold putImage in put-length l right img (rules .size) s (put-slot .0) new area-length new-size new-start new-own ks content chosen-distinct chosen-inside (omega (arith, length-chosen))
           ∙ rules .size;
-      kind = λ t h.
-          put-identity l right img (rules .size) s (put-slot .0) new area-length new-size new-start ks content chosen-distinct chosen-inside (omega (arith, length-chosen)) t h
-          ∙ rules .kind t h;
-      valid = put-valid l right (viewOf l (bytes img)) (viewOf l (bytes after)) s new ks content (rules .valid) put-fresh put-effect;
+      kind = kind-kept l right (bytes after) valid-after (bytes img) (rules .kind) low-after own-after;
+      valid = valid-after;
     }
+      where
+        valid-after : Valid l (viewOf l (bytes after))
+        valid-after = put-valid l right (viewOf l (bytes img)) (viewOf l (bytes after)) s new ks content (rules .valid) put-fresh put-effect
+
+    -- in the first directory the slot's identity bytes are already what put writes there
+    pub put-identity : l .second ≡ false → ((i : ℕ) → bytes img i < 256) → (j : ℕ) → j < 2 → bytes after (slotOffset l s + 22 + j) ≡ bytes img (slotOffset l s + 22 + j)
+    unfolding putImage newEntry
+    put-identity e small j h =
+        let at = slotOffset l s in
+        let own = number 2 (bytes img) (at + 22) in
+        let below : at + 24 ≤ blockOffset (l .blocks) = omega (arith, put-slot .0, right .directory-low, right .data-some) in
+        let fits : at + 22 + length (digits 2 own) ≤ length img = omega (arith, rules .size, length-digits 2 own) in
+        let long = length-full l right img (rules .size) s (put-slot .0) new area-length new-size new-start new-own ks content chosen-distinct chosen-inside (omega (arith, length-chosen)) in
+        identity-byte new area-length (fillBlocks l img ks content) at (omega (arith, rules .size, long)) j h
+        ∙ sym (ap (λ (x : List ℕ). bytes x (at + 22 + j)) (sym (digits-over 2 img (at + 22) (omega (arith, rules .size)) small))
+        ∙ getD-splice-in img (at + 22) (digits 2 own) j fits (omega (arith, length-digits 2 own))
+        ∙ ap (λ (v : ℕ). getD (digits 2 v) j 0) (rules .kind .identified e s (put-slot .0)))
 
     pub put-files : (t : ℕ) → filesIn l after t ≡ replaced (filesIn l img) s (some (keptFile l name type content)) t
     put-files =

@@ -15,7 +15,8 @@ use Rattle.layout.specs.declared.Layout.{Layout}
 use Rattle.map.specs.Map.{Walk, Whole, Bad, Cut, isWhole, faultOf}
 use Rattle.view.specs.Disk.{Entry, View, used, formed, chainOf, owned}
 use Rattle.view.specs.Rules.{malformed, hasNameOf, repeated, walkOf, broken, sharing}
-use Rattle.salvage.specs.Salvage.{noEntry, withEntries, verdict, drops, erasedIf, entriesAfter, diskAfter, reportOf}
+use Rattle.image.specs.Image.{erased}
+use Rattle.salvage.specs.Salvage.{withEntries, verdict, drops, erasedIf, entriesAfter, diskAfter, reportOf}
 
 -- No test of the check finds fault with slot s.
 pub record Clean (l : Layout) (v : View) (s : ℕ) : Type 0 where
@@ -140,9 +141,9 @@ module _ (l : Layout) (v : View) where
     kept-entry e n h = entry-settled s n h ∙ rw e (entry-ahead s s (omega arith))
 
     -- dropped: it is erased
-    pub dropped-entry : drops (reportOf l v s) ≡ true → (n : ℕ) → s < n → entriesAfter l v n s ≡ noEntry
+    pub dropped-entry : drops (reportOf l v s) ≡ true → (n : ℕ) → s < n → entriesAfter l v n s ≡ erased (v .entry s)
     unfolding entriesAfter
-    dropped-entry e n h = entry-settled s n h ∙ rw (e, eq-eqb s s refl) refl
+    dropped-entry e n h = entry-settled s n h ∙ rw (e, eq-eqb s s refl) (ap erased (entry-ahead s s (omega arith)))
 
     -- after its turn the slot is clean
     after-clean : Case l (diskAfter l v s) s → Clean l (diskAfter l v (suc s)) s
@@ -151,7 +152,7 @@ module _ (l : Layout) (v : View) where
     after-clean (is-kept u c e) = rw e c
     after-clean (is-dropped u e) = empty-clean l (diskAfter l v (suc s)) s (rw (e, eq-eqb s s refl) gone)
       where
-        gone : used noEntry ≡ false
+        gone : used (erased (entriesAfter l v s s)) ≡ false
         gone = unfold used in refl
 
     pub clean-after : (n : ℕ) → s < n → Clean l (diskAfter l v n) s

@@ -1,6 +1,6 @@
 -- The image that the run leaves shows the disk mended; and which of its map values are others.
 -- The dropped slots, the wrong system blocks and the stray blocks lie apart, so that each pass leaves what the others write. Assumes nothing.
-use mathlib.Core.Path.{_≡_, refl, sym, _∙_}
+use mathlib.Core.Path.{_≡_, refl, sym, ap, _∙_}
 use mathlib.Core.Bool.{Bool, true, false, not}
 use mathlib.Core.List.{List}
 use Prim.Native.Nat.{ℕ, _+_, _-_, _≤_, _<_}
@@ -17,10 +17,9 @@ use Rattle.laws.specs.Lemmas.Member.{in-has, out-has}
 use Rattle.layout.specs.declared.Layout.{Layout}
 use Rattle.layout.specs.Layouts.{imageLength, slotOffset, blockOffset}
 use Rattle.layout.specs.Right.{LayoutRight}
-use Rattle.blocks.specs.Lemmas.Numbers.{number-cong}
 use Rattle.map.specs.Map.{Data, mapAt, setAll, Outside}
 use Rattle.map.specs.Lemmas.Linking.{length-set-all, set-all-other, set-all-outside, set-all-on}
-use Rattle.view.specs.Disk.{View, owned}
+use Rattle.view.specs.Disk.{View, Entry, owned}
 use Rattle.view.specs.Rules.{badSystem, stray}
 use Rattle.image.specs.Image.{entryAt, identityAt, viewOf}
 use Rattle.image.specs.Lemmas.Entries.{entry-cong}
@@ -28,7 +27,7 @@ use Rattle.image.specs.Lemmas.Effect.{dir-outside, data-outside}
 use Rattle.salvage.specs.Salvage.{drops, reportOf, survivors, eraseSlots, droppedSlots, wrongSystem, strayBlocks, salvageImage}
 use Rattle.salvage.specs.Lemmas.Judged.{kept-entry, dropped-entry}
 use Rattle.salvage.specs.Lemmas.Survivors.{Mended}
-use Rattle.salvage.specs.Lemmas.Erased.{length-erase, erase-map, erase-identity, erase-block, erase-other, erase-on}
+use Rattle.salvage.specs.Lemmas.Erased.{length-erase, erase-map, erase-block, erase-other, erase-on}
 
 -- ---- where the run writes
 
@@ -120,10 +119,14 @@ module _ (l : Layout) (right : LayoutRight l) (img : List ℕ) (whole : length i
   entry-by s h false e =
       same-entry s h ∙ erase-other l right img (droppedSlots l v) s slots-in (λ i. clash (dropped-slot l v s i .1) e) ∙ sym (kept-entry l v s e (l .slots) h)
 
+  -- every slot's identity stays, a dropped one's too
   pub run-identity : (t : ℕ) → t < l .slots → identityAt l (bytes out) t ≡ identityAt l (bytes img) t
-  run-identity t h =
-      number-cong 2 (bytes one) (bytes out) (slotOffset l t + 22) (λ i p q. outside i (dir-outside l right t i h (omega arith) (omega arith)))
-      ∙ erase-identity l right img (droppedSlots l v) t slots-in
+  unfolding entryAt
+  run-identity t h = go (drops (reportOf l v t)) refl
+    where
+      go : (d : Bool) → drops (reportOf l v t) ≡ d → identityAt l (bytes out) t ≡ identityAt l (bytes img) t
+      go true e = ap (λ (x : Entry). x .identity) (entry-by t h true e ∙ dropped-entry l v t e (l .slots) h)
+      go false e = ap (λ (x : Entry). x .identity) (entry-by t h false e ∙ kept-entry l v t e (l .slots) h)
 
   -- ---- map values, by where the block is
 

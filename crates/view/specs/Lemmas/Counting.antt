@@ -8,11 +8,10 @@ use Prim.Native.Nat.{ℕ, zero, suc, _+_, _-_, _*_, _≤_, _<_}
 use native.Mathlib.Decide.{ℕ-discrete}
 use native.Mathlib.Nat.{zero-add}
 use native.Mathlib.Omega.{arith}
-use lib.Dec.{leb, eqb}
-use borrow.Author.Tests.{eqb-true, eqb-false, leb-true, lt-ltb}
+use lib.Dec.{eqb}
+use borrow.Author.Tests.{eqb-true, eqb-false, lt-ltb}
 use lib.ListN.{length, length-append, length-take}
-use Rattle.laws.specs.Truth.{pick, both}
-use Rattle.laws.specs.Lemmas.Truth.{both-true}
+use Rattle.laws.specs.Truth.{pick}
 use Rattle.laws.specs.Scan.{count, total}
 use Rattle.laws.specs.Lemmas.Scan.{count-cong, count-split, total-cong, total-snoc}
 use Rattle.laws.specs.Member.{In, has, Distinct}
@@ -21,10 +20,10 @@ use Rattle.layout.specs.declared.Layout.{Layout}
 use Rattle.layout.specs.Right.{LayoutRight}
 use Rattle.blocks.specs.Blocks.{linksFor, readBlocks}
 use Rattle.blocks.specs.Lemmas.Blocks.{length-read}
-use Rattle.names.specs.Names.{legalArea, legalType}
 use Rattle.map.specs.Map.{Data, freeCount}
 use Rattle.map.specs.Lemmas.Chains.{length-chain, chain-distinct}
-use Rattle.view.specs.Disk.{View, used, formed, entryChain, chainOf, owned, contentOf, filesOf, Used, Valid, takes}
+use Rattle.view.specs.Disk.{View, used, entryChain, chainOf, owned, contentOf, filesOf, Used, Valid, takes}
+use Rattle.view.specs.Lemmas.Formed.{formed-parts}
 use Rattle.view.specs.Lemmas.Kept.{owned-data, owned-taken}
 
 -- Each data block has 1,024 bytes.
@@ -114,11 +113,7 @@ module _ (l : Layout) (right : LayoutRight l) (v : View) (valid : Valid l v) whe
 
   module _ (sized : Sized l v) where
     pub entry-size : (s : ℕ) → Used l v s → 1 ≤ v .entry s .size
-    unfolding formed
-    entry-size s u =
-        let e = v .entry s in
-        let p = both-true (legalArea l (e .area)) (both (legalType l (e .type)) (leb 1 (e .size))) (valid .legal s u) in
-        leb-true 1 (e .size) (both-true (legalType l (e .type)) (leb 1 (e .size)) (p .1) .1)
+    entry-size s u = formed-parts l (v .entry s) (valid .legal s u) .size
 
     -- a file's content is as long as its entry says
     pub length-content : (s : ℕ) → Used l v s → length (contentOf v (v .entry s)) ≡ v .entry s .size

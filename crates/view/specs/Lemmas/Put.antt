@@ -7,20 +7,18 @@ use mathlib.Core.Option.{some}
 use Prim.Native.Nat.{ℕ, suc, _≤_, _<_}
 use native.Mathlib.Decide.{ℕ-discrete}
 use native.Mathlib.Omega.{arith}
-use lib.Dec.{leb}
-use borrow.Author.Tests.{ne-eqb, leb-true}
 use lib.ListN.{length, take}
-use Rattle.laws.specs.Lemmas.Truth.{clash, both-true}
-use Rattle.laws.specs.Truth.{both}
+use Rattle.laws.specs.Lemmas.Truth.{clash}
 use Rattle.laws.specs.Member.{In}
 use Rattle.laws.specs.Lemmas.Member.{decIn}
 use Rattle.layout.specs.declared.Layout.{Layout}
 use Rattle.layout.specs.Right.{LayoutRight}
 use Rattle.blocks.specs.Blocks.{linksFor, readBlocks}
-use Rattle.names.specs.Names.{legalArea, legalType, nameOf}
+use Rattle.names.specs.Names.{nameOf}
 use Rattle.map.specs.Map.{Data, Chained, firstOr}
 use Rattle.map.specs.Lemmas.Chains.{Linked, linked-chain, linked-chained}
 use Rattle.view.specs.Disk.{Entry, View, used, formed, entryChain, contentOf, fileOf, Used, Owns, Valid}
+use Rattle.view.specs.Lemmas.Formed.{formed-used}
 use Rattle.view.specs.Lemmas.Kept.{Kept, kept-chained, file-kept, used-back, owns-back, owns-on, owned-data, owned-taken}
 
 -- an entry, blocks and content that may be put into slot s
@@ -43,20 +41,6 @@ pub record Stored (l : Layout) (v : View) (s : ℕ) (e : Entry) (bs content : Li
   pub other : (b : ℕ) → b < l .blocks → (In b bs → ⊥) → w .map b ≡ v .map b
   pub block : (b : ℕ) → Data l b → (In b bs → ⊥) → w .block b ≡ v .block b
   pub bytes : take (length content) (readBlocks (w .block) bs) ≡ content
-
--- a well formed entry has a legal name
-pub formed-area : (l : Layout) (e : Entry) → formed l e ≡ true → legalArea l (e .area) ≡ true
-unfolding formed
-formed-area l e h = both-true (legalArea l (e .area)) (both (legalType l (e .type)) (leb 1 (e .size))) h .0
-
--- and is in use: 0 is no type
-pub formed-used : (l : Layout) → LayoutRight l → (e : Entry) → formed l e ≡ true → used e ≡ true
-unfolding formed used legalType
-formed-used l right e h =
-    let p = both-true (legalArea l (e .area)) (both (legalType l (e .type)) (leb 1 (e .size))) h in
-    let q = both-true (legalType l (e .type)) (leb 1 (e .size)) (p .1) in
-    let t : l .least ≤ e .type = leb-true (l .least) (e .type) (both-true (leb (l .least) (e .type)) (leb (e .type) (l .most)) (q .0) .0) in
-    ap not (ne-eqb (e .type) 0 (λ z. omega (arith, right .type-some)))
 
 new-chain : (m : ℕ → ℕ) (e : Entry) (bs : List ℕ) (mark : ℕ) → length bs ≡ suc (linksFor (e .size)) → e .start ≡ firstOr bs 0 → Linked m bs mark → entryChain m e ≡ bs
 unfolding entryChain firstOr
@@ -132,7 +116,7 @@ module _ (l : Layout) (right : LayoutRight l) (v w : View) (s : ℕ) (e : Entry)
   not-s t u p = clash (rw p at (u .1)) (fresh .empty)
 
   used-s : Used l w s
-  used-s = (fresh .slot, rw (stored .made) (formed-used l right e (fresh .form)))
+  used-s = (fresh .slot, rw (stored .made) (formed-used l e right (fresh .form)))
 
   owner-by : (b : ℕ) → Data l b → (w .map b ≡ 0 → ⊥) → Dec (In b bs) → (t : ℕ) × Owns l w t b
   owner-by b d n (yes i) = (s, (used-s, rw (stored .made, mine) i))
@@ -161,7 +145,7 @@ module _ (l : Layout) (right : LayoutRight l) (v w : View) (s : ℕ) (e : Entry)
 
   pub put-here : fileOf l w (w .entry s) ≡ some (record { name = nameOf l (e .area); type = e .type; content = content })
   unfolding fileOf
-  put-here = rw (stored .made, formed-used l right e (fresh .form), new-content) refl
+  put-here = rw (stored .made, formed-used l e right (fresh .form), new-content) refl
 
   pub put-others : (t : ℕ) → t < l .slots → (t ≡ s → ⊥) → fileOf l w (w .entry t) ≡ fileOf l v (v .entry t)
   put-others t h n = file-kept l v w t (stored .kept t h n) (λ u. keep t (h, u) n)
