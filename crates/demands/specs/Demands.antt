@@ -84,6 +84,9 @@ use Rattle.rules.specs.Outside.{TouchedBy}
 use Rattle.rules.specs.Mark as mark
 use Rattle.rules.specs.Mark.{lastBlock}
 use Rattle.rules.specs.Spelling as spelling
+use Rattle.rules.specs.Second as second
+use Rattle.rules.specs.Unread as unread
+use Rattle.rules.specs.Unread.{SameButFirst, Unseen}
 use Rattle.pages.specs.Cost as cost
 use Rattle.pages.specs.Cost.{holds, blocksHolding, noCost, costOf}
 use Rattle.calls.specs.Metered.{costIn}
@@ -497,3 +500,60 @@ salvage-same = salvaged.salvage-same
 pub salvage-record : (shape : Shape) (files : Files) (report : List ℕ) → stepFiles shape files (salvage report) ≡ salvaging files (shape .layout) files report
 unfolding stepFiles
 salvage-record shape files report = refl
+
+-- ---- Request five: S3000 high-density disks. All that is said above of a kind and a density holds for this one
+
+-- Its numbers: a second directory of 512 slots at block 5, data from block 17 on, 17 system values, names as on S1000 disks but for 0,0,0,2 after them, types
+-- of 193 to 218, identity 0,12.
+pub s3000-layout : layoutOf S3000 High
+    ≡ record { blocks = 1600; first = 17; slots = 512; directory = 5120; second = true; mark = 49152; system = 17; reserved = 16384; letters = 12; low = 0; high = 40; akaii = true; pad = 0; last = 2; least = 193; most = 218; identity = 3072 }
+s3000-layout = refl
+
+-- It is known by its length and by 255 as slot 0's type in the first directory, whatever the identities; a low image with that 255 is refused by 2.
+pub s3000-known : (img : List ℕ) → (knownOf img ≡ Disk S3000 High) ↔ ((length img ≡ 1638400) × (bytes img 16 ≡ 255))
+s3000-known = second.s3000-known
+
+pub passed-over-low : (img : List ℕ) → length img ≡ 819200 → bytes img 16 ≡ 255 → checkOf img ≡ Refused (refusalAt 2 0)
+passed-over-low = second.passed-over-low
+
+-- No call reads the first directory but byte 16: disks that differ in nothing else get the same answers and outputs, and differ in nothing else afterwards.
+pub first-unread : (x y : List ℕ) → knownOf x ≡ Disk S3000 High → SameButFirst x y → (c : Call) → Unseen (callOf x c) (callOf y c)
+first-unread x y known same = unread.first-unread S3000 High refl x y known same
+
+-- Nor does any call change it.
+pub first-kept : (img : List ℕ) → knownOf img ≡ Disk S3000 High → (i : ℕ) → i < 1536 → (c : Call) → bytes (callOf img c .state) i ≡ bytes img i
+first-kept img known i low = unread.first-kept S3000 High refl img known i low
+
+-- A used slot is well formed exactly so: legal name and 0,0,0,2, type, length, identity 0,12. Of an empty slot none of this is asked (`Breaks`).
+pub s3000-formed : (e : Entry)
+    → (formed (layoutOf S3000 High) e ≡ true) ↔ ((legalArea (layoutOf S3000 High) (e .area) ≡ true) × ((193 ≤ e .type) × (e .type ≤ 218)) × (1 ≤ e .size) × (e .identity ≡ 3072))
+s3000-formed e = second.formed-exactly (layoutOf S3000 High) e
+
+-- Put writes the slot whole: the name's letters and 0,0,0,2, the type byte itself, the length, and 0,12 over whatever identity stood there.
+pub s3000-put : (f n : ℕ) (img : List ℕ) → checkOf img ≡ Accepted S3000 High f n → (name : List ℕ) (type : ℕ) (content : List ℕ) (slot : ℕ) → callOf img (put name type content) .answer ≡ valued slot
+    → let e = viewOf (layoutOf S3000 High) (bytes (callOf img (put name type content) .state)) .entry slot in
+    (e .area ≡ map (toDisk (layoutOf S3000 High)) name ++ (0 ∷ 0 ∷ 0 ∷ 2 ∷ [])) × (e .type ≡ type) × (e .size ≡ length content) × (e .identity ≡ 3072)
+unfolding newEntry areaOf padding
+s3000-put f n img accept name type content slot a = rw (second.put-writes S3000 High f n img accept name type content slot a) (refl, refl, refl, refl)
+
+-- Remove leaves 0,12.
+pub s3000-remove : (f n : ℕ) (img : List ℕ) → checkOf img ≡ Accepted S3000 High f n → (slot : ℕ) (file : File) → filesIn (layoutOf S3000 High) img slot ≡ some file
+    → (name : List ℕ) → capitals (layoutOf S3000 High) name ≡ file .name
+    → viewOf (layoutOf S3000 High) (bytes (callOf img (remove name) .state)) .entry slot ≡ record { area = replicate 16 0; type = 0; size = 0; start = 0; identity = 3072 }
+s3000-remove = second.remove-leaves S3000 High
+
+-- On S900 and S1000 disks no call changes an identity's bytes.
+pub identity-kept : (k : Kind) (d : Density) (f n : ℕ) (img : List ℕ) → checkOf img ≡ Accepted k d f n → layoutOf k d .second ≡ false → ((j : ℕ) → bytes img j < 256)
+    → (c : Call) (s i : ℕ) → s < layoutOf k d .slots → Within (slotOffset (layoutOf k d) s + 22) 2 i → bytes (callOf img c .state) i ≡ bytes img i
+identity-kept k d f n img accept own small c s i = outside.identity-kept k d f n img accept c i own small s
+
+-- 512 slots: list, find and page know no other, and salvage asks for as many bytes of report. All 17 system values are restored (`salvage-system`).
+pub s3000-past : (f n : ℕ) (img : List ℕ) → checkOf img ≡ Accepted S3000 High f n → (slot : ℕ) → 512 ≤ slot → callOf img (list slot) .answer ≡ refused 10 0
+s3000-past f n img accept slot above = second.list-past S3000 High f n img accept slot above
+
+pub s3000-report : (img report : List ℕ) → knownOf img ≡ Disk S3000 High → length report < 512 → salvageOf img report ≡ came (refused 21 0) report img
+s3000-report img report known = salvaged.salvage-short S3000 High img known report
+
+-- The first 17,408 bytes and the length decide the check of every kind.
+pub head-decides : (x y : List ℕ) → length x ≡ length y → take 17408 x ≡ take 17408 y → checkOf x ≡ checkOf y
+head-decides = head.head-decides

@@ -1,2 +1,3 @@
 -- Lemmas that only proofs use.
 pub mod Steps
+pub mod Alike

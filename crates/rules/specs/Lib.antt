@@ -6,7 +6,9 @@ pub mod Salvage
 pub mod Demand
 pub mod Refused
 pub mod Outside
+pub mod Unread
 pub mod Mark
 pub mod Spelling
+pub mod Second
 pub mod Small
 pub mod Lemmas
