@@ -76,20 +76,24 @@ word at v s = byte at (v % 256) (byte (at + 1) (v / 256) s)
 abbrev pub value : ℕ → ℕ → Sparse → Sparse
 value block v s = word (mapOffset block) v s
 
+-- a slot's identity
+abbrev pub identity : Layout → ℕ → ℕ → Sparse → Sparse
+identity l slot v s = word (slotOffset l slot + 22) v s
+
 -- the identities of the slots below n, and the map values of the system blocks below n
 abbrev identities : Layout → ℕ → Sparse → Sparse
 identities l zero s = s
-identities l (suc n) s = word (slotOffset l n + 22) (l .identity) (identities l n s)
+identities l (suc n) s = identity l n (l .identity) (identities l n s)
 
 abbrev systems : Layout → ℕ → Sparse → Sparse
 systems l zero s = s
 systems l (suc n) s = value n (l .reserved) (systems l n s)
 
--- A disk without files, with right identities and system values.
+-- A disk without files: with right identities, or a first directory that is passed over, and with right system values.
 abbrev pub blank : Layout → Sparse
-blank l = systems l (l .system) (identities l (l .slots) zeros)
+blank l = systems l (l .system) (pick (l .second) (byte 16 255 zeros) (identities l (l .slots) zeros))
 
--- A file in a slot: its name is one stored byte over and over, its type the lowest.
+-- A file in a slot: its name is one stored byte over and over, its type the lowest, its identity the layout's.
 abbrev pub file : Layout → ℕ → ℕ → ℕ → ℕ → Sparse → Sparse
 file l slot letter size start s =
     let at = slotOffset l slot in
@@ -98,4 +102,4 @@ file l slot letter size start s =
     (byte (at + 15) (l .last)
     (byte (at + 16) (l .least)
     (word (at + 17) (size % 65536) (byte (at + 19) (size / 65536)
-    (word (at + 20) start s))))))
+    (word (at + 20) start (identity l slot (l .identity) s)))))))

@@ -1,5 +1,5 @@
--- Document 01's worked disks and words, P1 to P13, with the end mark of document 02's request one; that request's old mark, and request two's names in small
--- letters; one table, each row about real bytes.
+-- Document 01's worked disks and words, P1 to P13, with the end mark of document 02's request one; that request's old mark, request two's names in small
+-- letters, and request five's S3000 disks; one table, each row about real bytes.
 -- The checker computes each row on the bytes that are set; one lemma takes it to the list. Assumes nothing.
 use mathlib.Core.Path.{_≡_, refl, ap, ap₂, _∙_, subst, fun-ext}
 use mathlib.Core.List.{List, [], _∷_, _++_}
@@ -9,7 +9,7 @@ use lib.IntN.{ℤ, pos, negsuc}
 use lib.ListN.{length, replicate}
 use Rattle.laws.specs.Reader.{bytes}
 use Rattle.layout.specs.declared.Kind.{Kind}
-use Rattle.layout.specs.declared.Kind.the-variants.{S900, S1000}
+use Rattle.layout.specs.declared.Kind.the-variants.{S900, S1000, S3000}
 use Rattle.layout.specs.declared.Density.{Density}
 use Rattle.layout.specs.declared.Density.the-variants.{Low, High}
 use Rattle.layout.specs.declared.Layout.{Layout}
@@ -31,7 +31,7 @@ use Rattle.rules.specs.Check.{checkHead, checkOf, callOf}
 use Rattle.rules.specs.Accepted.{accepted-rules}
 use Rattle.rules.specs.Demand.{call-is, rules-after, files-after}
 use Rattle.words.specs.Words.{packed900}
-use Rattle.table.specs.Sparse.{Sparse, zeros, inside, listOf, reads, list-reads, sparse-check, value, blank, file}
+use Rattle.table.specs.Sparse.{Sparse, zeros, byte, inside, listOf, reads, list-reads, sparse-check, value, identity, blank, file}
 
 -- Map values that an image holds.
 abbrev pub MapHolds : List ℕ → List (ℕ × ℕ) → Type 0
@@ -60,9 +60,12 @@ abbrev pub All : List Row → Type 0
 All [] = Unit {0}
 All (r ∷ rs) = Holds r × All rs
 
--- The disk where no kind is said, and the S900 disk of low density.
+-- The disk where no kind is said, the S3000 disk, and the S900 disk of low density.
 abbrev high : Layout
 high = layoutOf S1000 High
+
+abbrev wide : Layout
+wide = layoutOf S3000 High
 
 abbrev low : Layout
 low = layoutOf S900 Low
@@ -115,6 +118,21 @@ rows =
     ∷ answers 819200 zeros
     (put bass 83 (7 ∷ []) ∷ put BASS 83 (8 ∷ []) ∷ list 0 ∷ find BASS ∷ remove BASS ∷ find bass ∷ [])
     (valued 0 ∷ valued 1 ∷ entry bass 83 1 ∷ valued 1 ∷ done ∷ valued 0 ∷ [])
+    ∷ checks 1638400 (blank wide) (Accepted S3000 High 0 1583)  -- request five: an empty disk
+    ∷ checks 1638400 (file wide 0 11 1024 17 (value 17 49152 (blank wide))) (Accepted S3000 High 1 1582)  -- as P3
+    ∷ checks 1638400 (file wide 0 11 1025 17 (value 17 49152 (blank wide))) (Refused (refusalAt 7 0))  -- as P4
+    ∷ checks 1638400 (file wide 0 11 1024 16 (value 17 49152 (blank wide))) (Refused (refusalAt 6 0))  -- as P5: a start of 16
+    ∷ checks 1638400 (file wide 511 11 1024 17 (value 17 49152 (blank wide))) (Accepted S3000 High 1 1582)  -- the last slot
+    ∷ checks 1638400 (file wide 511 11 1 17 (file wide 64 12 1 17 (value 17 49152 (blank wide)))) (Refused (refusalAt 8 511))  -- as P9
+    ∷ checks 1638400 (identity wide 7 768 (file wide 7 11 1024 17 (value 17 49152 (blank wide)))) (Refused (refusalAt 4 7))  -- a used slot with identity 0,3
+    ∷ checks 1638400 (identity wide 7 768 (blank wide)) (Accepted S3000 High 0 1583)  -- an empty slot with it
+    ∷ checks 1638400 (value 16 0 (blank wide)) (Refused (refusalAt 3 16))  -- a seventeenth system block that isn't marked
+    ∷ checks 819200 (byte 16 255 (blank (layoutOf S1000 Low))) (Refused (refusalAt 2 0))  -- 255 on a low image, whatever the identities
+    ∷ checks 1638400 (byte 16 255 (blank high)) (Refused (refusalAt 3 5))  -- and on a high one: it is an S3000 disk, whose block 5 isn't marked
+    -- the type is the byte itself, 83 is none; names fold, and there are 512 slots
+    ∷ answers 1638400 (blank wide)
+    (put bass-c2 211 (7 ∷ []) ∷ put bAsS-C2 83 (8 ∷ []) ∷ list 0 ∷ find BASS-C2 ∷ put bAsS-C2 208 (8 ∷ []) ∷ list 511 ∷ list 512 ∷ remove bass-c2 ∷ find bass-c2 ∷ [])
+    (valued 0 ∷ refused 11 0 ∷ entry BASS-C2 211 1 ∷ valued 0 ∷ refused 12 0 ∷ refused 10 0 ∷ refused 10 0 ∷ done ∷ refused 10 0 ∷ [])
     ∷ []
 
 -- ---- the rows hold
@@ -201,5 +219,58 @@ p13 =
 pub table : All rows
 unfolding p1 checkHead packed900 stepFiles filesOf entryAt
 table =
-    by-computation rows
-    ((tt, refl), ((tt, refl), ((tt, refl), ((tt, refl), ((tt, refl), ((tt, refl), ((tt, refl), ((tt, refl), ((tt, refl), ((tt, refl), (refl, (refl, (p13, ((tt, refl), ((tt, refl), ((tt, refl), ((S1000, Low, 0, 796, tt, refl, refl), ((S900, Low, 0, 796, tt, refl, refl), tt))))))))))))))))))
+    by-computation rows (
+      (tt, refl),
+      (
+        (tt, refl),
+        (
+          (tt, refl),
+          (
+            (tt, refl),
+            (
+              (tt, refl),
+              (
+                (tt, refl),
+                (
+                  (tt, refl),
+                  (
+                    (tt, refl),
+                    (
+                      (tt, refl),
+                      (
+                        (tt, refl),
+                        (
+                          refl,
+                          (
+                            refl,
+                            (
+                              p13,
+                              (
+                                (tt, refl),
+                                (
+                                  (tt, refl),
+                                  (
+                                    (tt, refl),
+                                    (
+                                      (S1000, Low, 0, 796, tt, refl, refl),
+                                      (
+                                        (S900, Low, 0, 796, tt, refl, refl),
+                                        ((tt, refl), ((tt, refl), ((tt, refl), ((tt, refl), ((tt, refl), ((tt, refl), ((tt, refl), ((tt, refl), ((tt, refl), ((tt, refl), ((tt, refl), ((S3000, High, 0, 1583, tt, refl, refl), tt)))))))))))),
+                                      ),
+                                    ),
+                                  ),
+                                ),
+                              ),
+                            ),
+                          ),
+                        ),
+                      ),
+                    ),
+                  ),
+                ),
+              ),
+            ),
+          ),
+        ),
+      ),
+    )
