@@ -41,7 +41,8 @@ fn moved(at: usize, step: usize) -> usize {
     1638401
 }
 
-// Where a block's map value lies, its bytes, and a slot; for a number too large, an offset past every image.
+// Where a block's map value lies, its bytes, a slot, and one of the second directory; for a number too large, an offset
+// past every image.
 fn map_at(block: usize) -> usize {
     if block < 819200 {
         1536 + 2 * block
@@ -56,6 +57,14 @@ fn block_at(block: usize) -> usize {
 
 fn slot_at(slot: usize) -> usize {
     if slot < 64 { 24 * slot } else { 1638401 }
+}
+
+fn other_at(slot: usize) -> usize {
+    if slot < 512 {
+        5120 + 24 * slot
+    } else {
+        1638401
+    }
 }
 
 pub(crate) fn set_map(image: &mut Image, block: usize, value: usize) {
@@ -123,25 +132,61 @@ fn set_name(image: &mut Image, at: usize, text: &[u8], from: usize, count: usize
     }
 }
 
-// Stores a slot but for its identity: SLOT TYPE LENGTH START NAME.
-pub(crate) fn set_entry(image: &mut Image, text: &[u8]) {
+// What a slot's line says: SLOT TYPE LENGTH START NAME, the name as where it begins.
+struct Fields {
+    slot: usize,
+    letter: u8,
+    size: usize,
+    start: usize,
+    name: usize,
+}
+
+fn fields_of(text: &[u8]) -> Fields {
     let slot = line::number(text, line::word_end(text, 0));
     let letter_at = moved(slot.next, 1);
     let letter = line::byte_at(text, letter_at);
     let size = line::number(text, moved(letter_at, 1));
     let start = line::number(text, size.next);
-    let at = slot_at(slot.value);
     let name = moved(start.next, 1);
-    let s1000 = letter >= b'a';
-    if s1000 {
-        set_name(image, at, text, name, 12, true);
+    Fields {
+        slot: slot.value,
+        letter,
+        size: size.value,
+        start: start.value,
+        name,
+    }
+}
+
+// Stores what lies after a slot's name alike on every kind of disk: type, length and start.
+fn set_file(image: &mut Image, at: usize, byte: usize, size: usize, start: usize) {
+    set_byte(image, moved(at, 16), byte);
+    set_word(image, moved(at, 17), size);
+    set_byte(image, moved(at, 19), size / 65536);
+    set_word(image, moved(at, 20), start);
+}
+
+// Stores a slot of the first directory but for its identity, as the kind that has such a letter does.
+pub(crate) fn set_entry(image: &mut Image, text: &[u8]) {
+    let fields = fields_of(text);
+    let at = slot_at(fields.slot);
+    if fields.letter >= b'a' {
+        set_name(image, at, text, fields.name, 12, true);
         set_words(image, moved(at, 12), 8224, 2, 2);
     } else {
-        set_name(image, at, text, name, 10, false);
+        set_name(image, at, text, fields.name, 10, false);
         set_words(image, moved(at, 10), 0, 3, 2);
     }
-    set_byte(image, moved(at, 16), letter as usize);
-    set_word(image, moved(at, 17), size.value);
-    set_byte(image, moved(at, 19), size.value / 65536);
-    set_word(image, moved(at, 20), start.value);
+    set_file(image, at, fields.letter as usize, fields.size, fields.start);
+}
+
+// Stores a slot of the second directory, with its identity.
+pub(crate) fn set_other(image: &mut Image, text: &[u8]) {
+    let fields = fields_of(text);
+    let at = other_at(fields.slot);
+    set_name(image, at, text, fields.name, 12, true);
+    set_word(image, moved(at, 12), 0);
+    set_word(image, moved(at, 14), 512);
+    let byte = fields.letter as usize + 128;
+    set_file(image, at, byte, fields.size, fields.start);
+    set_word(image, moved(at, 22), 3072);
 }

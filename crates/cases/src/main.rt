@@ -9,6 +9,8 @@
 //   join BLOCK COUNT VALUE               links COUNT blocks in rising order, and stores VALUE at the last
 //   entry SLOT TYPE LENGTH START NAME    stores a slot but for its identity: with a small TYPE letter as the S1000 does
 //                                        (AKAII, then four bytes of 32), else as the S900 does (ASCII, then six zeros)
+//   other SLOT TYPE LENGTH START NAME    stores a slot of the second directory as the S3000 does: AKAII, then 0,0,0,2; a
+//                                        capital TYPE letter plus 128; and identity 0,12
 //   data BLOCK COUNT FIRST               stores FIRST, FIRST + 1, .. from a block on, modulo 251
 //   check, list SLOT, find [NAME]        print the answer
 //   page SLOT OFFSET SIZE                prints it, the output's first four bytes and a sum over all of its SIZE bytes,
@@ -16,8 +18,8 @@
 //                                        and all of them on a refusal
 //   took SLOT OFFSET SIZE                prints the answer of a page into SIZE bytes, at most 65,536, and what it cost
 //   salvage SIZE                         mends the image with a report of SIZE bytes of 9, at most 4,096; prints the
-//                                        answer and all bytes of the report, in groups of eight: those past 64 are
-//                                        seen to be kept, and all of them on a refusal
+//                                        answer and all bytes of the report, in groups of eight: those past the slots
+//                                        are seen to be kept, and all of them on a refusal
 mod answers;
 mod build;
 mod line;
@@ -53,6 +55,7 @@ fn store(image: &mut Image, length: usize, text: &[u8]) -> usize {
         b'j' => build::set_links(image, a.value, b.value, c.value),
         b'd' => build::set_data(image, a.value, b.value, c.value),
         b'e' => build::set_entry(image, text),
+        b'o' => build::set_other(image, text),
         _ => {}
     }
     length
