@@ -24,7 +24,7 @@ int main(int argc, char **argv) {
         return fputs("usage: page IMAGE SLOT\n", stderr), 2;
     size_t slot, offset = 0;
     if (!is_slot(argv[2], &slot))
-        return fprintf(stderr, "page: \"%s\" is no slot: give its number, 0 to 63\n", argv[2]), 2;
+        return fprintf(stderr, "page: \"%s\" is no slot: give its number, 0 to 63, or to 511 on an S3000 disk\n", argv[2]), 2;
     FILE *in = fopen(argv[1], "rb");
     if (!in)
         return perror(argv[1]), 2;

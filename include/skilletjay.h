@@ -1,4 +1,4 @@
-/* Skilletjay: floppy images of Akai S900, S950 and S1000 samplers, read and written by proved code.
+/* Skilletjay: floppy images of Akai S900, S950, S1000 and S3000 samplers, read and written by proved code.
  *
  * Every function takes any bytes and ends. None keeps a pointer, allocates, or writes to anything but what is lent to it as
  * not const. Slices are a pointer and a length; a slice of length 0 may be a null pointer. Nothing that is lent to one call
@@ -10,6 +10,10 @@
  * sj_salvage, sj_run) needs it alone.
  *
  * Every call on an image but sj_salvage checks it first and refuses by 1 to 9 before it looks at its other arguments.
+ *
+ * A disk is an S900's or an S1000's, of low density or high, or an S3000's (byte 16 of the image is 255), of high density alone. Its directory has 64
+ * slots, an S3000's 512; they count from 0. A type is the byte on the disk: A to Z (S900), a to z (S1000), 193 to 218 (S3000), which is A to Z with 128
+ * added: there 211 is S, and 83 is no type.
  */
 #ifndef SKILLETJAY_H
 #define SKILLETJAY_H
@@ -18,10 +22,10 @@
 #include <stddef.h>
 #include <stdint.h>
 
-#define SJ_VERSION "0.4.2"
+#define SJ_VERSION "0.5.0"
 #define SJ_VERSION_MAJOR 0
-#define SJ_VERSION_MINOR 4
-#define SJ_VERSION_PATCH 2
+#define SJ_VERSION_MINOR 5
+#define SJ_VERSION_PATCH 0
 
 #ifdef __cplusplus
 extern "C" {
@@ -33,9 +37,9 @@ typedef enum {
 
     /* of the image: sj_check, and every call on an image */
     SJ_IMAGE_LENGTH = 1,   /* neither 819,200 nor 1,638,400 bytes */
-    SJ_UNKNOWN_KIND = 2,   /* the directory's identities are of no kind */
-    SJ_SYSTEM_BLOCK = 3,   /* not marked as one in an S1000 disk's map; place: the block */
-    SJ_MALFORMED_SLOT = 4, /* name, type or length of a used slot; place: the slot */
+    SJ_UNKNOWN_KIND = 2,   /* the directory's identities are of no kind, or it is an S3000's on an image of low density */
+    SJ_SYSTEM_BLOCK = 3,   /* not marked as one in the map of an S1000 or S3000 disk; place: the block */
+    SJ_MALFORMED_SLOT = 4, /* name, type or length of a used slot, on an S3000 disk its identity too; place: the slot */
     SJ_NAME_TWICE = 5,     /* place: the higher slot */
     SJ_CHAIN_ASTRAY = 6,   /* a file's chain leaves the data area; place: the slot */
     SJ_CHAIN_LENGTH = 7,   /* a file's chain is shorter or longer than the file; place: the slot */
@@ -43,11 +47,11 @@ typedef enum {
     SJ_STRAY_BLOCK = 9,    /* marked as used, and on no file's chain; place: the block */
 
     /* of the call */
-    SJ_NO_SUCH_FILE = 10,    /* or the slot is empty, or there is no such slot */
+    SJ_NO_SUCH_FILE = 10,    /* or the slot is empty, or there is no such slot: above 63, on an S3000 disk above 511 */
     SJ_NAME_OR_TYPE = 11,    /* not legal on this disk */
     SJ_NAME_IN_USE = 12,     /* place: the slot of the file that has it */
     SJ_NO_CONTENT = 13,      /* a content of 0 bytes */
-    SJ_NO_SLOT = 14,         /* all 64 are used */
+    SJ_NO_SLOT = 14,         /* all are used: 64, on an S3000 disk 512 */
     SJ_NO_ROOM = 15,         /* the content needs more blocks than are free */
     SJ_CONTENT_LENGTH = 16,  /* over 16,777,215 bytes; SJ_NO_ROOM is asked first, so it is never given */
     SJ_OFFSET_TOO_HIGH = 17, /* above the file's length */
@@ -66,7 +70,7 @@ const char *sj_words(uint32_t refusal);
 typedef struct {
     uint32_t refusal;
     size_t place;
-    uint32_t kind;    /* 900 or 1000 */
+    uint32_t kind;    /* 900, 1000 or 3000 */
     uint32_t density; /* 0 low, 1 high */
     size_t files;
     size_t free; /* free blocks of 1,024 bytes */
@@ -75,8 +79,8 @@ typedef struct {
 typedef struct {
     uint32_t refusal;
     size_t place;
-    uint8_t name[12]; /* ASCII; on an S900 disk ten bytes and two zeros, on an S1000 disk letters in capitals */
-    uint8_t type;     /* the type byte, A to Z (S900) or a to z (S1000) */
+    uint8_t name[12]; /* ASCII; on an S900 disk ten bytes and two zeros, on the others twelve with letters in capitals */
+    uint8_t type;     /* the type byte: A to Z (S900), a to z (S1000), 193 to 218 (S3000) */
     size_t length;    /* the file's bytes */
 } sj_listed;
 
@@ -104,15 +108,15 @@ typedef struct {
     size_t count;
 } sj_counted;
 
-/* Whether an image is accepted: refusals 1 to 9. Reads the length and the first 5,120 bytes. The image is lent and kept. */
+/* Whether an image is accepted: refusals 1 to 9. Reads the length and no byte past the first 17,408. The image is lent and kept. */
 sj_checked sj_check(const uint8_t *image, size_t image_len);
 
-/* What a slot holds, 0 to 63: refusals 1 to 9, then 10 if it is empty or there is no such slot. An S1000 name is given in capitals, however it
- * was typed. The image is lent and kept. */
+/* What a slot holds, 0 to 63 (S3000: 511): refusals 1 to 9, then 10 if it is empty or there is no such slot. An S1000 or S3000 name is given in
+ * capitals, however it was typed. The image is lent and kept. */
 sj_listed sj_list(const uint8_t *image, size_t image_len, size_t slot);
 
-/* The slot of the file with a name, in ASCII and of its exact length, 10 bytes (S900) or 12 (S1000), padded with spaces: refusals
- * 1 to 9, then 11, then 10. On S1000 disks a to z in a name are taken as A to Z, here and in sj_put and sj_remove; S900 names keep their
+/* The slot of the file with a name, in ASCII and of its exact length, 10 bytes (S900) or 12 (S1000, S3000), padded with spaces: refusals 1 to 9,
+ * then 11, then 10. On S1000 and S3000 disks a to z in a name are taken as A to Z, here and in sj_put and sj_remove; S900 names keep their
  * case. Image and name are lent and kept. */
 sj_found sj_find(const uint8_t *image, size_t image_len, const uint8_t *name, size_t name_len);
 
@@ -125,25 +129,27 @@ sj_paged sj_page(const uint8_t *image, size_t image_len, size_t slot, size_t off
  * 1 to 9, then 10, then 21 where the output has no room for all of them. The output's other numbers are kept, and all of them on a refusal. The
  * image is lent and kept.
  *
- * Like sj_check, sj_list and sj_find it reads the length and the first 5,120 bytes alone. Who keeps images elsewhere can lend zeros for the rest; for
+ * Like sj_check, sj_list and sj_find it reads the length and no byte past the first 17,408. Who keeps images elsewhere can lend zeros for the rest; for
  * pages of a file fetch its blocks too, 1,024 bytes each at 1,024 times its number, and no others. Every answer is that on the whole image. */
 sj_counted sj_blocks(const uint8_t *image, size_t image_len, size_t slot, uint16_t *blocks, size_t blocks_len);
 
 /* Puts a file: the lowest empty slot, the lowest free blocks in rising order, zeros after the content in its last block. The name is as for
- * sj_find, and an S1000 disk keeps it in capitals: two spellings that differ in case alone are one name there, 12. The type is A to Z (S900)
- * or a to z (S1000). Refusals 1 to 9, then 11, 13, 12, 14, 15, 16. Name and content are lent and kept; so is the image on a refusal. On 16:
- * 15 is asked first, so it is never given. */
+ * sj_find, and an S1000 or S3000 disk keeps it in capitals: two spellings that differ in case alone are one name there, 12. The type is the byte
+ * itself: A to Z (S900), a to z (S1000), 193 to 218 (S3000). The slot's 24 bytes are written whole, on an S3000 disk with an identity that an empty slot
+ * need not have had. Refusals 1 to 9, then 11, 13, 12, 14, 15, 16. Name and content are lent and kept; so is the image on a refusal. On 16: 15 is asked
+ * first, so it is never given. */
 sj_found sj_put(uint8_t *image, size_t image_len, const uint8_t *name, size_t name_len, uint8_t type, const uint8_t *content, size_t content_len);
 
 /* Removes the file with a name, which is as for sj_find: its slot becomes zeros but for the identity, its blocks free; data bytes stay. Refusals
  * 1 to 9, then 11, then 10. The name is lent and kept; so is the image on a refusal. */
 sj_done sj_remove(uint8_t *image, size_t image_len, const uint8_t *name, size_t name_len);
 
-/* Mends an image in place and says slot by slot what was lost: refusals 1 and 2, then 21 for a report of under 64 bytes, and none else. Slots are taken
- * in rising order. The report's first 64 bytes become 0 for an empty slot, 1 for one that is kept, else the number that it is dropped for, the first
- * that applies: SJ_MALFORMED_SLOT, SJ_NAME_TWICE if a kept lower slot has its name, SJ_CHAIN_ASTRAY or SJ_CHAIN_LENGTH by the map as given, SJ_SHARED_BLOCK if
- * a kept lower slot's chain has one of its blocks. A dropped slot's bytes become those that sj_remove leaves; then the map values of data blocks on no kept
- * chain become 0, those of an S1000 disk's system blocks 16,384. Gives how many map values are others than before. No data byte changes.
+/* Mends an image in place and says slot by slot what was lost: refusals 1 and 2, then 21 for a report of fewer bytes than the disk has slots (64, on an
+ * S3000 disk 512: as many do for every kind), and none else. Slots are taken in rising order. Each slot's byte of the report becomes 0 for an empty
+ * slot, 1 for one that is kept, else the number that it is dropped for, the first that applies: SJ_MALFORMED_SLOT, SJ_NAME_TWICE if a kept lower slot has
+ * its name, SJ_CHAIN_ASTRAY or SJ_CHAIN_LENGTH by the map as given, SJ_SHARED_BLOCK if a kept lower slot's chain has one of its blocks. A dropped slot's
+ * bytes become those that sj_remove leaves; then the map values of data blocks on no kept chain become 0, those of system blocks 16,384 (S1000: the
+ * first 4 or 5, S3000: the first 17). Gives how many map values are others than before. No data byte changes.
  *
  * The image is accepted afterwards, and what is kept reads as its own chain says; an accepted image comes back as it was, with a count of 0. The
  * report's other bytes are kept; on a refusal all of them are, and the image too. */

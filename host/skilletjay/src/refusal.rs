@@ -106,7 +106,7 @@ const ROWS: [Row; 21] = [
          small letters and capitals.",
     ),
     (13, Place::None, "the content is empty", "Give a content of at least one byte."),
-    (14, Place::None, "all 64 slots are used", "Remove a file first, or take another disk."),
+    (14, Place::None, "all slots are used", "Remove a file first, or take another disk."),
     (
         15,
         Place::None,
