@@ -1,13 +1,13 @@
 //! Directory and map as an image has them, legal or not: what the library doesn't tell of an image that it refuses.
 
 use crate::{akaii, select};
-use skilletjay::{Density, Kind, SLOTS, Slot};
+use skilletjay::{Density, Kind, Slot};
 
 /// Bytes of a slot.
 const SLOT: usize = 24;
 
 /// Where the map begins, two bytes for each block.
-const MAP_AT: usize = SLOT * SLOTS;
+const MAP_AT: usize = SLOT * 64;
 
 /// Bytes of a slot that are its name's, with those after it.
 const AREA: usize = 16;
@@ -32,7 +32,7 @@ impl Written {
         let (name, after) = self.bytes[..AREA].split_at(self.kind.name_length());
         let filler = match self.kind {
             Kind::S900 => 0,
-            Kind::S1000 => 32,
+            Kind::S1000 | Kind::S3000 => 32,
         };
         let mut characters: Vec<Result<char, u8>> = name.iter().map(|&byte| self.character(byte)).collect();
         if after.iter().any(|&byte| byte != filler) {
@@ -45,7 +45,7 @@ impl Written {
     fn character(&self, byte: u8) -> Result<char, u8> {
         let character = match self.kind {
             Kind::S900 => Some(char::from(byte)).filter(|character| matches!(character, ' '..='~')),
-            Kind::S1000 => akaii::character_of(byte),
+            Kind::S1000 | Kind::S3000 => akaii::character_of(byte),
         };
         character.ok_or(byte)
     }

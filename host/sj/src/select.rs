@@ -37,7 +37,7 @@ pub fn padded(kind: Kind, name: &str) -> String {
 pub fn folded(kind: Kind, word: &str) -> String {
     match kind {
         Kind::S900 => word.to_string(),
-        Kind::S1000 => word.to_ascii_uppercase(),
+        Kind::S1000 | Kind::S3000 => word.to_ascii_uppercase(),
     }
 }
 
@@ -123,14 +123,16 @@ pub fn refused_name(about: &str, kind: Kind, name: &str, refusal: Refusal) -> Fa
 pub fn bad_character(kind: Kind, name: &str) -> Option<String> {
     let (most, rule) = match kind {
         Kind::S900 => (10, "an S900 name has at most 10 characters of ASCII, space to ~"),
-        Kind::S1000 => (
+        Kind::S1000 | Kind::S3000 => (
             12,
             "an S1000 name has at most 12 of 0-9, A-Z (small letters are taken as capitals), space and # + - .",
         ),
     };
     let legal = |character: &char| match kind {
         Kind::S900 => matches!(character, ' '..='~'),
-        Kind::S1000 => character.is_ascii_alphanumeric() || matches!(character, ' ' | '#' | '+' | '-' | '.'),
+        Kind::S1000 | Kind::S3000 => {
+            character.is_ascii_alphanumeric() || matches!(character, ' ' | '#' | '+' | '-' | '.')
+        }
     };
     let length = name.trim_end().chars().count();
     match name.chars().position(|character| !legal(&character)) {
@@ -147,7 +149,7 @@ pub fn bad_character(kind: Kind, name: &str) -> Option<String> {
 pub fn bad_type(kind: Kind, file_type: u8) -> Option<String> {
     let (legal, rule) = match kind {
         Kind::S900 => (file_type.is_ascii_uppercase(), "an S900 type is one of A to Z"),
-        Kind::S1000 => (file_type.is_ascii_lowercase(), "an S1000 type is one of a to z"),
+        Kind::S1000 | Kind::S3000 => (file_type.is_ascii_lowercase(), "an S1000 type is one of a to z"),
     };
     let character = char::from(file_type);
     (!legal).then(|| format!("the type {character:?} isn't legal: {rule}"))

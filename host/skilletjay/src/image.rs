@@ -6,10 +6,10 @@ use std::fmt;
 
 /// Bytes of a block.
 pub const BLOCK: usize = 1024;
-/// Slots of a directory.
-pub const SLOTS: usize = 64;
+/// No directory has more slots; see [`Kind::slots`].
+pub const MOST_SLOTS: usize = 512;
 /// Directory and map lie in so many bytes of any image: all that is read but for a file's content.
-pub const HEAD: usize = 5 * BLOCK;
+pub const HEAD: usize = 17 * BLOCK;
 
 /// Whose disk it is.
 #[derive(Clone, Copy, Debug, PartialEq, Eq, Hash)]
@@ -18,6 +18,8 @@ pub enum Kind {
     S900,
     /// S1000.
     S1000,
+    /// S3000, of high density alone.
+    S3000,
 }
 
 impl Kind {
@@ -25,12 +27,20 @@ impl Kind {
     pub fn name_length(self) -> usize {
         match self {
             Kind::S900 => 10,
-            Kind::S1000 => 12,
+            Kind::S1000 | Kind::S3000 => 12,
+        }
+    }
+
+    /// Slots of the directory.
+    pub fn slots(self) -> usize {
+        match self {
+            Kind::S900 | Kind::S1000 => 64,
+            Kind::S3000 => MOST_SLOTS,
         }
     }
 
     /// A name padded with spaces to the kind's length. A longer one stays, and calls refuse it by 11. Letters stay as they
-    /// are typed; the calls take small ones for capitals on an S1000 disk.
+    /// are typed; the calls take small ones for capitals on an S1000 or S3000 disk.
     ///
     /// ```
     /// assert_eq!(skilletjay::Kind::S900.padded("BASS"), "BASS      ");
@@ -45,6 +55,7 @@ impl fmt::Display for Kind {
         to.pad(match self {
             Kind::S900 => "S900",
             Kind::S1000 => "S1000",
+            Kind::S3000 => "S3000",
         })
     }
 }
@@ -95,12 +106,25 @@ impl fmt::Display for Slot {
 pub struct Entry {
     /// The slot.
     pub slot: Slot,
-    /// The name with its spaces, 10 characters (S900) or 12, with letters in capitals (S1000).
+    /// The name with its spaces, 10 characters (S900) or 12, with letters in capitals (S1000, S3000).
     pub name: String,
-    /// The type, A to Z (S900) or a to z (S1000).
+    /// The type byte: A to Z (S900), a to z (S1000) or 193 to 218 (S3000).
     pub file_type: u8,
     /// Bytes of the content.
     pub length: usize,
+}
+
+impl Entry {
+    /// The type's letter: an S3000's type is a capital with 128 added, any other the letter itself.
+    ///
+    /// ```
+    /// # use skilletjay::{Entry, Slot};
+    /// # let entry = |file_type| Entry { slot: Slot(0), name: String::new(), file_type, length: 1 };
+    /// assert_eq!([b'S', b's', 211].map(|file_type| entry(file_type).letter()), ['S', 's', 'S']);
+    /// ```
+    pub fn letter(&self) -> char {
+        char::from(self.file_type & 127)
+    }
 }
 
 /// What a page gives.
@@ -137,7 +161,11 @@ impl<B: AsRef<[u8]>> Image<B> {
     /// Whether the image is accepted: refusals 1 to 9.
     pub fn check(&self) -> Result<Checked, Refusal> {
         let told = lend::check(self.bytes());
-        let kind = if told.kind == 900 { Kind::S900 } else { Kind::S1000 };
+        let kind = match told.kind {
+            900 => Kind::S900,
+            1000 => Kind::S1000,
+            _ => Kind::S3000,
+        };
         let density = if told.density == 0 { Density::Low } else { Density::High };
         Refusal::or(told.refusal, told.place, Checked { kind, density, files: told.files, free: told.free })
     }
@@ -162,12 +190,12 @@ impl<B: AsRef<[u8]>> Image<B> {
     /// # Ok::<(), skilletjay::Refusal>(())
     /// ```
     pub fn entries(&self) -> Result<Vec<Entry>, Refusal> {
-        let files = self.check()?.files;
-        Ok((0..SLOTS).filter_map(|slot| self.list(Slot(slot)).ok()).take(files).collect())
+        let Checked { kind, files, .. } = self.check()?;
+        Ok((0..kind.slots()).filter_map(|slot| self.list(Slot(slot)).ok()).take(files).collect())
     }
 
-    /// The slot of the file with a name, in ASCII with its spaces: 11, 10. On an S1000 disk small letters are taken as
-    /// capitals, here and in [`put`](Image::put) and [`remove`](Image::remove); S900 names keep their case.
+    /// The slot of the file with a name, in ASCII with its spaces: 11, 10. On an S1000 or S3000 disk small letters are
+    /// taken as capitals, here and in [`put`](Image::put) and [`remove`](Image::remove); S900 names keep their case.
     pub fn find(&self, name: impl AsRef<[u8]>) -> Result<Slot, Refusal> {
         let told = lend::find(self.bytes(), name.as_ref());
         Refusal::or(told.refusal, told.place, Slot(told.slot))
@@ -225,8 +253,9 @@ impl<B: AsRef<[u8]>> Image<B> {
 }
 
 impl<B: AsRef<[u8]> + AsMut<[u8]>> Image<B> {
-    /// Puts a file into the lowest empty slot: 11, 13, 12, 14, 15, 16. On an S1000 disk the name is kept in capitals, so two
-    /// spellings of it are one: 12.
+    /// Puts a file into the lowest empty slot: 11, 13, 12, 14, 15, 16. On an S1000 or S3000 disk the name is kept in
+    /// capitals, so two spellings of it are one: 12. The type is the byte itself; on an S3000 disk `b'S'` is refused by
+    /// 11, and `b'S' + 128` is a sample's.
     pub fn put(&mut self, name: impl AsRef<[u8]>, file_type: u8, content: &[u8]) -> Result<Slot, Refusal> {
         let told = lend::put(self.bytes.as_mut(), name.as_ref(), file_type, content);
         Refusal::or(told.refusal, told.place, Slot(told.slot))
@@ -260,9 +289,11 @@ impl<B: AsRef<[u8]> + AsMut<[u8]>> Image<B> {
     /// # Ok::<(), skilletjay::Refusal>(())
     /// ```
     pub fn salvage(&mut self) -> Result<Salvaged, Refusal> {
-        let mut report = [0; SLOTS]; // long enough: never refused by 21
+        let mut report = [0; MOST_SLOTS]; // long enough for every kind: never refused by 21
         let told = lend::salvage(self.bytes.as_mut(), &mut report);
-        Refusal::or(told.refusal, told.place, Salvaged::of(&report, told.count))
+        Refusal::or(told.refusal, told.place, ())?;
+        let slots = self.check()?.kind.slots(); // it is accepted now
+        Ok(Salvaged::of(&report[..slots], told.count))
     }
 }
 
@@ -303,11 +334,83 @@ mod tests {
     fn blank(kind: Kind, density: Density) -> Image {
         let (blocks, system) = if density == Density::Low { (800, 4) } else { (1600, 5) };
         let mut bytes = vec![0; blocks * BLOCK];
-        if kind == Kind::S1000 {
-            (0..SLOTS).for_each(|slot| bytes[24 * slot + 23] = 3);
-            (0..system).for_each(|block| bytes[1536 + 2 * block + 1] = 64);
+        let system = match kind {
+            Kind::S900 => 0,
+            Kind::S1000 => system,
+            Kind::S3000 => 17,
+        };
+        (0..system).for_each(|block| bytes[1536 + 2 * block + 1] = 64);
+        match kind {
+            Kind::S900 => {}
+            Kind::S1000 => (0..64).for_each(|slot| bytes[24 * slot + 23] = 3),
+            Kind::S3000 => bytes[16] = 255,
         }
         Image::new(bytes)
+    }
+
+    #[test]
+    fn every_kind_is_told_with_its_slots() {
+        let low = [(Kind::S900, Density::Low, 796, 64), (Kind::S1000, Density::Low, 796, 64)];
+        let high = [(Kind::S900, Density::High, 1595, 64), (Kind::S1000, Density::High, 1595, 64)];
+        let all = [&low[..], &high, &[(Kind::S3000, Density::High, 1583, 512)]].concat();
+        for (kind, density, free, slots) in all {
+            let image = blank(kind, density);
+            assert_eq!(image.check(), Ok(Checked { kind, density, files: 0, free }));
+            assert_eq!((kind.slots(), number(image.list(Slot(slots)))), (slots, Some(10)));
+        }
+        assert_eq!(number(blank(Kind::S3000, Density::Low).check()), Some(2));
+    }
+
+    /// Byte 16 comes before the identities; of the first directory nothing else is read.
+    #[test]
+    fn an_s3000_disk_is_known_by_one_byte() {
+        let mut bytes = blank(Kind::S3000, Density::High).into_bytes();
+        (0..64).for_each(|slot| bytes[24 * slot + 23] = 3);
+        bytes[24..1536].iter_mut().step_by(24).for_each(|byte| *byte = 7);
+        assert_eq!(Image::new(&bytes).check().map(|checked| checked.kind), Ok(Kind::S3000));
+        bytes[16] = 254;
+        assert_eq!(number(Image::new(&bytes).check()), Some(4));
+        let mut bytes = vec![0; 819_200];
+        bytes[16] = 255; // all identities are an S900's
+        assert_eq!(number(Image::new(&bytes).check()), Some(2));
+        let mut bytes = blank(Kind::S3000, Density::High).into_bytes();
+        bytes[1536 + 2 * 16 + 1] = 0;
+        let refusal = Image::new(&bytes).check().expect_err("a system block");
+        assert_eq!((refusal.number(), refusal.place()), (3, 16));
+    }
+
+    #[test]
+    fn an_s3000_file_there_and_back() {
+        let mut image = blank(Kind::S3000, Density::High);
+        let padded = |name: &str| Kind::S3000.padded(name);
+        for wrong in [b'S', b's', 0, 192, 219, 255] {
+            assert_eq!(number(image.put(padded("A"), wrong, b"x")), Some(11), "{wrong}");
+        }
+        let slot = image.put(padded("Bass c2"), 211, &[7; 1025]).expect("room");
+        let entry = image.list(slot).expect("there");
+        assert_eq!((entry.name.as_str(), entry.file_type, entry.letter()), ("BASS C2     ", 211, 'S'));
+        let mut stored = [10; 24];
+        stored[..7].copy_from_slice(&[12, 11, 29, 29, 10, 13, 2]);
+        stored[12..].copy_from_slice(&[0, 0, 0, 2, 211, 1, 4, 0, 17, 0, 0, 12]);
+        assert_eq!(image.bytes()[5120..5144], stored);
+        assert_eq!((image.find(padded("bass C2")), image.blocks(slot)), (Ok(slot), Ok(vec![17, 18])));
+        assert_eq!(image.read(slot), Ok(vec![7; 1025]));
+        assert_eq!(number(image.put(padded("BASS c2"), 208, b"x")), Some(12));
+        assert_eq!(image.remove(padded("bass c2")), Ok(()));
+        assert_eq!(image.bytes()[5120..5144], [[0; 22].as_slice(), &[0, 12]].concat());
+    }
+
+    #[test]
+    fn an_s3000_disk_has_512_slots() {
+        let mut image = blank(Kind::S3000, Density::High);
+        for slot in 0..512 {
+            assert_eq!(image.put(format!("N {slot:<10}"), 208, &[1]), Ok(Slot(slot)));
+        }
+        assert_eq!(number(image.put(Kind::S3000.padded("ONE MORE"), 208, &[1])), Some(14));
+        assert_eq!(image.check().map(|checked| (checked.files, checked.free)), Ok((512, 1071)));
+        let entries = image.entries().expect("accepted");
+        assert_eq!((entries.len(), entries[511].name.as_str()), (512, "N 511       "));
+        assert_eq!((image.find("n 511       "), number(image.list(Slot(512)))), (Ok(Slot(511)), Some(10)));
     }
 
     #[test]

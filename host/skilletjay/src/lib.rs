@@ -1,4 +1,4 @@
-//! Floppy images of Akai S900, S950 and S1000 samplers, read and written by proved code.
+//! Floppy images of Akai S900, S950, S1000 and S3000 samplers, read and written by proved code.
 //!
 //! The calls are those of `include/skilletjay.h`, on Rust's own slices. An [`Image`] is any bytes, owned or
 //! borrowed; every call checks it first, so nothing has to be checked before. A call that can't be done gives a
@@ -36,6 +36,7 @@ mod salvage;
 pub mod sample;
 
 pub use download::Download;
-pub use image::{BLOCK, Checked, Density, Entry, HEAD, Image, Kind, Paged, SLOTS, Slot};
+pub use image::{BLOCK, Checked, Density, Entry, HEAD, Image, Kind, MOST_SLOTS, Paged, Slot};
 pub use refusal::{Place, Refusal};
 pub use salvage::{Fate, Salvaged};
+pub use sample::SampleKind;

@@ -45,19 +45,21 @@ const ROWS: [Row; 21] = [
         2,
         Place::None,
         "the directory is of no known kind",
-        "Give an image of an S900, S950 or S1000 disk: all 64 slots must have the identity of one kind.",
+        "Give an image of an S900, S950 or S1000 disk: all 64 slots must have the identity of one kind. An S3000 disk, \
+         whose byte 16 is 255, must be of high density.",
     ),
     (
         3,
         Place::Block,
         "a system block isn't marked as one in the map",
-        "The map is damaged or this is no S1000 disk; read the disk again, or salvage what is sound.",
+        "The map is damaged or this is no S1000 or S3000 disk; read the disk again, or salvage what is sound.",
     ),
     (
         4,
         Place::Slot,
         "a slot of the directory is malformed",
-        "The slot's name, type or length is damaged; read the disk again, or salvage what is sound.",
+        "The slot's name, type or length, or on an S3000 disk its identity, is damaged; read the disk again, or salvage \
+         what is sound.",
     ),
     (
         5,
@@ -96,14 +98,15 @@ const ROWS: [Row; 21] = [
         Place::None,
         "the name or the type isn't legal on this disk",
         "Give an S900 disk 10 characters of ASCII and a type A to Z; give an S1000 disk 12 of 0-9, letters (kept as \
-         capitals), space and # + - . and a type a to z.",
+         capitals), space and # + - . and a type a to z, and an S3000 disk such a name and a type A \
+         (193) to Z (218).",
     ),
     (
         12,
         Place::Slot,
         "the name is already used",
-        "Take another name, or remove the file that has it first; types don't tell names apart, nor on an S1000 disk \
-         small letters and capitals.",
+        "Take another name, or remove the file that has it first; types don't tell names apart, nor on an S1000 or \
+         S3000 disk small letters and capitals.",
     ),
     (13, Place::None, "the content is empty", "Give a content of at least one byte."),
     (14, Place::None, "all slots are used", "Remove a file first, or take another disk."),

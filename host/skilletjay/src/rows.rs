@@ -3,19 +3,19 @@
 //! The library refuses a file by 18 or 20 and tells the offset alone; here are the words for it. Nothing is judged here.
 //!
 //! ```
-//! use skilletjay::{Kind, rows::{self, Form}, sample};
+//! use skilletjay::{SampleKind, rows::{self, Form}, sample};
 //!
 //! let mut file = vec![0; 60];
 //! file[..10].copy_from_slice(b"BASS C2   ");
 //! file[26] = b'X';
-//! let refusal = sample::words_of(Kind::S900, &file).unwrap_err();
-//! let words = rows::words(Form::Sample(Kind::S900), &file, refusal.place());
+//! let refusal = sample::words_of(SampleKind::S900, &file).unwrap_err();
+//! let words = rows::words(Form::Sample(SampleKind::S900), &file, refusal.place());
 //! assert_eq!(words.as_deref(), Some("loop mode is X, not O, L or A"));
 //! ```
 
 mod tables;
 
-use crate::{Kind, sample};
+use crate::{SampleKind, sample};
 use std::fmt;
 use tables::{HEADER, KEYGROUP, NEXT, Rule, S900, S1000, SAMPLE};
 
@@ -29,7 +29,7 @@ const SAMPLE_BYTES: usize = 24;
 #[derive(Clone, Copy, Debug, PartialEq, Eq)]
 pub enum Form {
     /// A sample file.
-    Sample(Kind),
+    Sample(SampleKind),
     /// An S1000 program file.
     Program,
 }
@@ -133,7 +133,7 @@ impl Row {
     fn words(&self, file: &[u8]) -> Option<String> {
         let (name, value) = (&self.name, self.fault(file)?);
         let legal = self.legal.in_file(file);
-        let odd = self.legal == Legal::Fitting(Form::Sample(Kind::S900)) && value % 2 == 1;
+        let odd = self.legal == Legal::Fitting(Form::Sample(SampleKind::S900)) && value % 2 == 1;
         let value = match u8::try_from(value) {
             Ok(letter) if legal.is_letters() && letter.is_ascii_graphic() => char::from(letter).to_string(),
             _ => value.to_string(),
@@ -153,8 +153,12 @@ impl Row {
 /// What is wrong with a file that is refused at an offset; None if the offset is no row's or nothing is wrong there.
 pub fn words(form: Form, file: &[u8], offset: usize) -> Option<String> {
     let (what, header) = match form {
-        Form::Sample(Kind::S900) => ("an S900 sample's header", sample::header_length(Kind::S900)),
-        Form::Sample(Kind::S1000) => ("an S1000 sample's header", sample::header_length(Kind::S1000)),
+        Form::Sample(SampleKind::S900) => {
+            ("an S900 sample's header", sample::header_length(SampleKind::S900))
+        }
+        Form::Sample(SampleKind::S1000) => {
+            ("an S1000 sample's header", sample::header_length(SampleKind::S1000))
+        }
         Form::Program => ("a program's header", PART),
     };
     if file.len() < header {
@@ -178,8 +182,8 @@ pub fn row(form: Form, offset: usize) -> Option<Row> {
         return None;
     }
     let (rule, sample) = match (form, part) {
-        (Form::Sample(Kind::S900), _) => (find(S900, at)?, None),
-        (Form::Sample(Kind::S1000), _) => (find(S1000, at)?, None),
+        (Form::Sample(SampleKind::S900), _) => (find(S900, at)?, None),
+        (Form::Sample(SampleKind::S1000), _) => (find(S1000, at)?, None),
         (Form::Program, 0) => (find(HEADER, at)?, None),
         (Form::Program, _) => find_in_keygroup(at)?,
     };
@@ -214,8 +218,8 @@ fn find_in_keygroup(at: usize) -> Option<(&'static Rule, Option<usize>)> {
 /// The number of words or of keygroups that a file of a length has; None if there is no such length.
 fn fitting(form: Form, length: usize) -> Option<i64> {
     let (header, bytes, numbers, step) = match form {
-        Form::Sample(Kind::S900) => (60, 3, 0..=i64::MAX, 2), // two words take three bytes
-        Form::Sample(Kind::S1000) => (PART, 2, 0..=i64::MAX, 1),
+        Form::Sample(SampleKind::S900) => (60, 3, 0..=i64::MAX, 2), // two words take three bytes
+        Form::Sample(SampleKind::S1000) => (PART, 2, 0..=i64::MAX, 1),
         Form::Program => (PART, PART, 1..=99, 1),
     };
     let rest = length.checked_sub(header)?;
@@ -237,9 +241,9 @@ mod tests {
     fn rows_are_found_by_any_of_their_bytes() {
         let name = |form, offset| row(form, offset).map(|row| (row.name, row.offset));
         let some = |name: &str, offset| Some((name.to_string(), offset));
-        assert_eq!(name(Form::Sample(Kind::S900), 38), some("loop length", 36));
-        assert_eq!(name(Form::Sample(Kind::S1000), 5), some("name character 3", 5));
-        assert_eq!(name(Form::Sample(Kind::S1000), 38), None);
+        assert_eq!(name(Form::Sample(SampleKind::S900), 38), some("loop length", 36));
+        assert_eq!(name(Form::Sample(SampleKind::S1000), 5), some("name character 3", 5));
+        assert_eq!(name(Form::Sample(SampleKind::S1000), 38), None);
         assert_eq!(name(Form::Program, 50), some("key temperament", 44));
         assert_eq!(name(Form::Program, 150 * 2 + 3), some("keygroup 2's low key", 303));
         assert_eq!(name(Form::Program, 150 + 77), some("keygroup 1's sample 2 loop mode", 227));
@@ -252,10 +256,10 @@ mod tests {
     fn lengths_ask_for_numbers() {
         let fits = |kind, length| fitting(Form::Sample(kind), length);
         assert_eq!(
-            [fits(Kind::S900, 60), fits(Kind::S900, 66), fits(Kind::S900, 61)],
+            [fits(SampleKind::S900, 60), fits(SampleKind::S900, 66), fits(SampleKind::S900, 61)],
             [Some(0), Some(4), None]
         );
-        assert_eq!([fits(Kind::S1000, 154), fits(Kind::S1000, 155)], [Some(2), None]);
+        assert_eq!([fits(SampleKind::S1000, 154), fits(SampleKind::S1000, 155)], [Some(2), None]);
         let fits = [150, 300, 301, 15_000, 15_150].map(|length| fitting(Form::Program, length));
         assert_eq!(fits, [None, Some(1), None, Some(99), None]);
     }
@@ -276,7 +280,7 @@ mod tests {
         assert_eq!(words(Form::Program, &file, 16), None);
         let mut odd = [0; 64];
         odd[16] = 3;
-        let told = words(Form::Sample(Kind::S900), &odd, 16);
+        let told = words(Form::Sample(SampleKind::S900), &odd, 16);
         assert_eq!(told.as_deref(), Some("3 words said, and their number is even"));
     }
 }

@@ -57,7 +57,7 @@ impl Salvaged {
 #[cfg(test)]
 mod tests {
     use super::*;
-    use crate::{Image, SLOTS, Slot};
+    use crate::{Image, Slot};
 
     /// A low S900 disk with four files of two blocks each: 4 and 5, 6 and 7, 8 and 9, 10 and 11.
     fn disk() -> Image {
@@ -92,7 +92,10 @@ mod tests {
         let dropped: Vec<(u32, usize)> =
             salvaged.dropped().map(|refusal| (refusal.number(), refusal.place())).collect();
         let files = image.check().expect("accepted").files;
-        assert_eq!((salvaged.slots.len(), salvaged.kept()), (SLOTS, files));
+        assert_eq!(
+            (salvaged.slots.len(), salvaged.kept()),
+            (image.check().expect("accepted").kind.slots(), files)
+        );
         for entry in image.entries().expect("accepted") {
             let content = image.read(entry.slot).expect("kept");
             assert!(content.len() == entry.length && salvaged.slots[entry.slot.0] == Fate::Kept);
@@ -127,10 +130,32 @@ mod tests {
     fn strays_and_system_values_cost_no_file() {
         assert_eq!(lost(spoiled(&[(map(700), 5)])), (vec![], 1));
         let mut bytes = vec![0; 819_200];
-        (0..SLOTS).for_each(|at| bytes[slot(at, 23)] = 3);
+        (0..64).for_each(|at| bytes[slot(at, 23)] = 3);
         let mut image = Image::new(bytes);
         assert_eq!(image.salvage().map(|salvaged| salvaged.map_values), Ok(4));
         assert_eq!(image.check().map(|checked| checked.files), Ok(0));
+    }
+
+    /// A slot of an S3000 disk with a wrong identity is lost, and all 17 system values are set. The identity stays, and
+    /// isn't read in an empty slot.
+    #[test]
+    fn an_s3000_disk_is_told_by_512_slots() {
+        let mut bytes = vec![0; 1_638_400];
+        bytes[16] = 255;
+        (0..17).for_each(|block| bytes[map(block) + 1] = 64);
+        let mut image = Image::new(bytes);
+        for at in 0..512 {
+            image.put(format!("N {at:<10}"), 211, &[1]).expect("room");
+        }
+        let mut bytes = image.into_bytes();
+        bytes[5120 + slot(511, 23)] = 3;
+        bytes[5120 + slot(100, 15)] = 1;
+        (bytes[map(0)], bytes[map(16) + 1]) = (1, 0);
+        assert_eq!(lost(Image::new(bytes.clone())), (vec![(4, 100), (4, 511)], 4));
+        let mut image = Image::new(bytes);
+        image.salvage().expect("mended");
+        assert_eq!(image.bytes()[5120 + slot(511, 0)..][..24], [[0; 23].as_slice(), &[3]].concat());
+        assert_eq!(image.put("N 100       ", 211, &[1]), Ok(Slot(100)));
     }
 
     /// A name that stands in a dropped slot is free, and so are its blocks.

@@ -63,7 +63,8 @@ fn hold_all(form: Form, file: &[u8], length: usize, random: &mut Random) {
 #[test]
 fn rows_of_samples_are_the_librarys() {
     let mut random = Random::new(1);
-    for (kind, theirs, header) in [(skilletjay::Kind::S900, S900, 60), (skilletjay::Kind::S1000, S1000, 150)]
+    for (kind, theirs, header) in
+        [(skilletjay::SampleKind::S900, S900, 60), (skilletjay::SampleKind::S1000, S1000, 150)]
     {
         for words in [0, 2, 1000] {
             let file = files::sample(theirs, words, &mut random);
@@ -94,8 +95,8 @@ fn rows_of_programs_are_the_librarys() {
 fn lengths_are_told() {
     let mut random = Random::new(3);
     let kinds: [(Form, Vec<u8>); 3] = [
-        (Form::Sample(skilletjay::Kind::S900), files::sample(Kind::S900, 8, &mut random)),
-        (Form::Sample(skilletjay::Kind::S1000), files::sample(Kind::S1000, 8, &mut random)),
+        (Form::Sample(skilletjay::SampleKind::S900), files::sample(Kind::S900, 8, &mut random)),
+        (Form::Sample(skilletjay::SampleKind::S1000), files::sample(Kind::S1000, 8, &mut random)),
         (Form::Program, files::program(2, &mut random)),
     ];
     for (form, file) in kinds {

@@ -12,7 +12,7 @@ use crate::image_file;
 use crate::json::Object;
 use header::Header;
 use skilletjay::rows::{self, Form};
-use skilletjay::{Kind, Refusal, sample};
+use skilletjay::{Refusal, SampleKind, sample};
 use std::path::Path;
 
 pub use pack::pack;
@@ -58,15 +58,23 @@ fn fields(object: Object, header: &Header) -> Object {
 }
 
 /// A refusal of a sample file, with what the file was taken for and why, and the row at fault.
-fn refused(about: &str, kind: Kind, file: &[u8], refusal: Refusal) -> Failure {
+fn refused(about: &str, kind: SampleKind, file: &[u8], refusal: Refusal) -> Failure {
     let why = match kind {
-        Kind::S900 => "first byte not 3",
-        Kind::S1000 => "first byte 3",
+        SampleKind::S900 => "first byte not 3",
+        SampleKind::S1000 => "first byte 3",
     };
     match rows::words(Form::Sample(kind), file, refusal.place()) {
         Some(words) if refusal.number() == 18 => {
-            Failure::refused_as(about, refusal, format!("as {kind} ({why}): {words}"))
+            let besides =
+                if fits_s3000(file) { "; an S3000 sample's header, of 192 bytes, isn't read" } else { "" };
+            Failure::refused_as(about, refusal, format!("as {kind} ({why}): {words}{besides}"))
         }
         _ => Failure::refused(about, refusal),
     }
+}
+
+/// Whether a file is as long as an S3000 sample of its words: it begins as an S1000's does, and its header has 192 bytes.
+fn fits_s3000(file: &[u8]) -> bool {
+    let words = file.get(26..30).and_then(|bytes| bytes.try_into().ok()).map(u32::from_le_bytes);
+    file.first() == Some(&3) && words.is_some_and(|words| file.len() as u64 == 192 + 2 * u64::from(words))
 }

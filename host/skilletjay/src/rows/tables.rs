@@ -2,7 +2,7 @@
 //! answers, value by value.
 
 use super::{Form, Legal};
-use crate::Kind;
+use crate::SampleKind;
 use Legal::{Fitting, From, OneOf, OrOff, UpTo};
 
 /// A row's rule in its part of a file.
@@ -65,7 +65,7 @@ const FIFTY: Legal = From(-50, 50);
 pub const S900: &[Rule] = &[
     name(0, 10, ASCII),
     fixed(10, 6, 0),
-    wide(16, 4, "number of words", Fitting(Form::Sample(Kind::S900))),
+    wide(16, 4, "number of words", Fitting(Form::Sample(SampleKind::S900))),
     fixed(24, 2, 0),
     one(26, "loop mode", OneOf(b"OLA")),
     fixed(27, 1, 0),
@@ -84,7 +84,7 @@ pub const S1000: &[Rule] = &[
     one(19, "loop mode", From(0, 3)),
     one(20, "tune cents", FIFTY),
     one(21, "tune semitones", FIFTY),
-    wide(26, 4, "number of words", Fitting(Form::Sample(Kind::S1000))),
+    wide(26, 4, "number of words", Fitting(Form::Sample(SampleKind::S1000))),
     wide(30, 4, "start marker", UpTo(34)),
     wide(34, 4, "end marker", UpTo(26)),
 ];

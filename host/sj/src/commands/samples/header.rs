@@ -2,13 +2,13 @@
 
 use crate::failure::counting;
 use crate::{akaii, select};
-use skilletjay::{Kind, sample};
+use skilletjay::{SampleKind, sample};
 
 /// The header of a sample file that the library accepts.
 #[derive(Clone)]
 pub struct Header {
     /// Whose it is.
-    pub kind: Kind,
+    pub kind: SampleKind,
     /// Its bytes.
     pub bytes: Vec<u8>,
 }
@@ -24,14 +24,14 @@ struct Fields {
 
 impl Header {
     /// The header of a file.
-    pub fn of_file(kind: Kind, file: &[u8]) -> Header {
+    pub fn of_file(kind: SampleKind, file: &[u8]) -> Header {
         Header { kind, bytes: file[..sample::header_length(kind)].to_vec() }
     }
 
     fn fields(&self) -> Fields {
         match self.kind {
-            Kind::S900 => Fields { name: 0, words: 16, rate: 20, end: 28, start: 32 },
-            Kind::S1000 => Fields { name: 3, words: 26, start: 30, end: 34, rate: 138 },
+            SampleKind::S900 => Fields { name: 0, words: 16, rate: 20, end: 28, start: 32 },
+            SampleKind::S1000 => Fields { name: 3, words: 26, start: 30, end: 34, rate: 138 },
         }
     }
 
@@ -87,13 +87,13 @@ impl Header {
 
     /// Sets the name, which is legal for the kind, and pads it. An S1000's is in capitals.
     pub fn set_name(&mut self, name: &str) {
-        let (at, name) = (self.fields().name, select::folded(self.kind, name));
+        let disk = self.kind.disk();
+        let (at, name) = (self.fields().name, select::folded(disk, name));
         let code = |byte: u8| match self.kind {
-            Kind::S900 => byte,
-            Kind::S1000 => akaii::code_of(byte).unwrap_or(0),
+            SampleKind::S900 => byte,
+            SampleKind::S1000 => akaii::code_of(byte).unwrap_or(0),
         };
-        let codes: Vec<u8> =
-            self.kind.padded(&name).bytes().take(self.kind.name_length()).map(code).collect();
+        let codes: Vec<u8> = disk.padded(&name).bytes().take(disk.name_length()).map(code).collect();
         self.bytes[at..at + codes.len()].copy_from_slice(&codes);
     }
 

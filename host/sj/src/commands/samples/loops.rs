@@ -11,7 +11,7 @@
 
 use super::header::Header;
 use crate::wav::smpl::{Loop, Smpl};
-use skilletjay::Kind;
+use skilletjay::SampleKind;
 
 /// S1000: root note, number of active loops, mode (0 and 1 play loops, 2 and 3 don't), cents, loops of 12 bytes.
 const ROOT: usize = 2;
@@ -82,7 +82,7 @@ impl Held {
 impl Header {
     /// The loops that an S1000 header says are active.
     pub fn active(&self) -> Vec<Held> {
-        if self.kind == Kind::S900 {
+        if self.kind == SampleKind::S900 {
             return Vec::new();
         }
         let held = |at: usize| {
@@ -104,7 +104,7 @@ impl Header {
 
     /// The loop length of an S900 header.
     pub fn loop_length(&self) -> Option<u32> {
-        (self.kind == Kind::S900).then(|| self.four(LENGTH_900))
+        (self.kind == SampleKind::S900).then(|| self.four(LENGTH_900))
     }
 
     /// Sets the loop length of an S900 header.
@@ -115,8 +115,8 @@ impl Header {
     /// What a WAV file tells of the header besides the rate; None if it has neither a note nor a loop to tell.
     pub fn smpl(&self) -> Option<Smpl> {
         let loops = match self.kind {
-            Kind::S900 => self.told_loop_900(),
-            Kind::S1000 => self.told_loops().into_iter().map(|(_, told)| told).collect(),
+            SampleKind::S900 => self.told_loop_900(),
+            SampleKind::S1000 => self.told_loops().into_iter().map(|(_, told)| told).collect(),
         };
         let note = self.told_note();
         if note.is_none() && loops.is_empty() {
@@ -128,7 +128,7 @@ impl Header {
 
     /// The root note; or the tuning, if it is a note's, as note and fraction.
     fn told_note(&self) -> Option<(u8, u32)> {
-        if self.kind == Kind::S1000 {
+        if self.kind == SampleKind::S1000 {
             return Some((self.bytes[ROOT], 0));
         }
         let tuning = self.two(TUNING);
@@ -161,8 +161,8 @@ impl Header {
             self.set_note(smpl.note, smpl.fraction);
         }
         match self.kind {
-            Kind::S900 => self.take_loop_900(&smpl.loops, like),
-            Kind::S1000 => self.take_loops(&smpl.loops, like, rate),
+            SampleKind::S900 => self.take_loop_900(&smpl.loops, like),
+            SampleKind::S1000 => self.take_loops(&smpl.loops, like, rate),
         }
     }
 
@@ -170,9 +170,9 @@ impl Header {
     fn set_note(&mut self, note: u8, fraction: u32) {
         let parts = |of: u64| ((u64::from(fraction) * of + (1 << 31)) >> 32) as u16; // to the nearest
         match self.kind {
-            Kind::S900 => self.set_two(TUNING, 16 * u16::from(note) + parts(16)),
-            Kind::S1000 if fraction == 0 => self.bytes[ROOT] = note,
-            Kind::S1000 => {
+            SampleKind::S900 => self.set_two(TUNING, 16 * u16::from(note) + parts(16)),
+            SampleKind::S1000 if fraction == 0 => self.bytes[ROOT] = note,
+            SampleKind::S1000 => {
                 let (up, cents) = match parts(100) as i8 {
                     cents if cents > 50 && note < 127 => (1, 100 - cents),
                     cents => (0, -cents.min(50)),

@@ -10,7 +10,7 @@ use crate::select::bad_character;
 use crate::wav::Wav;
 use crate::wav::smpl::Smpl;
 use crate::{image_file, input, output, save};
-use skilletjay::{Kind, sample};
+use skilletjay::{SampleKind, sample};
 use std::path::{Path, PathBuf};
 
 /// What the options ask for.
@@ -42,7 +42,7 @@ pub fn pack(arguments: &mut Arguments) -> Result<(), Failure> {
     let header = header_for(&like, &about, &wav, &asked)?;
     let words = words_for(like.kind, &about, &wav.words, asked.round)?;
     let packed = sample::file_of(like.kind, &header.bytes, &words).map_err(|refusal| {
-        if like.kind == Kind::S900 && words.len() % 2 == 1 {
+        if like.kind == SampleKind::S900 && words.len() % 2 == 1 {
             let words = counting(words.len(), "word");
             let words = format!("it has {words}, and an S900 sample an even number; cut one");
             return Failure::refused_as(&about, refusal, words);
@@ -85,7 +85,7 @@ pub fn header_for(like: &Header, about: &str, wav: &Wav, asked: &Asked) -> Resul
         return Err(Failure::declined(about, format!("{past}; --clip-loops moves it back"), advice));
     }
     if let Some(name) = &asked.name {
-        if let Some(words) = bad_character(like.kind, name) {
+        if let Some(words) = bad_character(like.kind.disk(), name) {
             return Err(Failure::declined(about, words, "Give a name that the sampler can show.").on(name));
         }
         header.set_name(name.trim_end());
@@ -117,8 +117,8 @@ fn within(smpl: &Smpl, words: u32, clip: bool) -> Result<Smpl, String> {
 
 /// A sampler's words of a WAV's. An S900 has 12 bits: if the low four of 16 say something, the words are rounded only if
 /// that is asked for.
-pub fn words_for(kind: Kind, about: &str, words: &[i16], round: bool) -> Result<Vec<i16>, Failure> {
-    if kind == Kind::S1000 {
+pub fn words_for(kind: SampleKind, about: &str, words: &[i16], round: bool) -> Result<Vec<i16>, Failure> {
+    if kind == SampleKind::S1000 {
         return Ok(words.to_vec());
     }
     let (half, lost) = (1 << (SHIFT - 1), (1 << SHIFT) - 1);

@@ -9,8 +9,8 @@ use crate::wav::smpl::{Loop, Smpl};
 use model::files;
 use model::random::Random;
 
-const KINDS: [(Kind, model::layout::Kind); 2] =
-    [(Kind::S900, model::layout::Kind::S900), (Kind::S1000, model::layout::Kind::S1000)];
+const KINDS: [(SampleKind, model::layout::Kind); 2] =
+    [(SampleKind::S900, model::layout::Kind::S900), (SampleKind::S1000, model::layout::Kind::S1000)];
 
 fn asked() -> Asked {
     Asked { like: "like".into(), name: None, round: false, clip: false }
@@ -20,10 +20,10 @@ fn asked() -> Asked {
 fn sample_file(theirs: model::layout::Kind, words: usize, random: &mut Random) -> Vec<u8> {
     let mut file = files::sample(theirs, words, random);
     let (kind, rate) =
-        if theirs == model::layout::Kind::S900 { (Kind::S900, 20) } else { (Kind::S1000, 138) };
+        if theirs == model::layout::Kind::S900 { (SampleKind::S900, 20) } else { (SampleKind::S1000, 138) };
     file[rate] |= 1; // a WAV file has no rate of 0
     let mut header = Header::of_file(kind, &file);
-    if kind == Kind::S900 {
+    if kind == SampleKind::S900 {
         let any = random.below(2048) as u16;
         header.set_two(22, random.pick(&[0, 960, 967, 2047, 2048, 65_535, any]));
     } else {
@@ -52,7 +52,7 @@ fn packed(wav: &Wav, like: &Header) -> Vec<u8> {
 
 /// Whether an active loop ends past the words.
 fn plays_past(header: &Header) -> bool {
-    let active = if header.kind == Kind::S1000 { header.bytes[16].min(8) } else { 0 };
+    let active = if header.kind == SampleKind::S1000 { header.bytes[16].min(8) } else { 0 };
     (0..usize::from(active)).any(|at| header.four(38 + 12 * at) > header.words())
 }
 
@@ -92,7 +92,7 @@ fn another_samples_note_and_loops_are_taken() {
         let like = sample_file(theirs, words, &mut random);
         let mut like = Sample::of_bytes("b", &like).expect("legal").header;
         like.clip();
-        if kind == Kind::S900 {
+        if kind == SampleKind::S900 {
             like.set_four(32, 0); // its start is before any loop's end
         }
         let new = Sample::of_bytes("c", &packed(&wav, &like)).expect("legal");
@@ -123,8 +123,8 @@ fn clipped_headers_are_legal() {
         let like = Sample::of_bytes("b", &sample_file(theirs, like, &mut random)).expect("legal").header;
         let words = vec![16; 2 * random.below(20)];
         let any = |random: &mut Random| random.pick(&[0, 1, 7, 39, u32::MAX - 1, u32::MAX]);
-        let loops = (0..random.below(if kind == Kind::S900 { 2 } else { 9 })).map(|_| Loop {
-            alternating: kind == Kind::S900 && random.one_in(2),
+        let loops = (0..random.below(if kind == SampleKind::S900 { 2 } else { 9 })).map(|_| Loop {
+            alternating: kind == SampleKind::S900 && random.one_in(2),
             end: 1 + any(&mut random).min(u32::MAX - 1),
             length: 1,
             fraction: any(&mut random),
@@ -143,7 +143,7 @@ fn clipped_headers_are_legal() {
         };
         let clipped = packs(true).expect("clipped");
         match packs(false) {
-            Ok(file) if kind == Kind::S900 => {
+            Ok(file) if kind == SampleKind::S900 => {
                 assert!(file == clipped, "turn {turn}: nothing was to be clipped")
             }
             Ok(_) => {}

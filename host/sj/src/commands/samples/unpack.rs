@@ -9,7 +9,7 @@ use crate::json::Object;
 use crate::progress::Progress;
 use crate::wav::Wav;
 use crate::{input, output, outside, save, select};
-use skilletjay::{Entry, Image, Kind};
+use skilletjay::{Entry, Image, Kind, SampleKind};
 use std::path::{Path, PathBuf};
 
 /// Unpacks a sample file, or samples of an image, to WAV files.
@@ -65,6 +65,7 @@ fn samples(image: &Image<&[u8]>) -> Result<Vec<Entry>, skilletjay::Refusal> {
     let file_type = match image.check()?.kind {
         Kind::S900 => b'S',
         Kind::S1000 => b's',
+        Kind::S3000 => b'S' + 128,
     };
     Ok(image.entries()?.into_iter().filter(|entry| entry.file_type == file_type).collect())
 }
@@ -129,7 +130,7 @@ pub fn wav_of(about: &str, sample: Sample) -> Result<Wav, Failure> {
             "Set the rate in the sample's header, on a sampler or at offset 20 (S900) or 138 (S1000).";
         return Err(Failure::declined(about, "its rate is 0, and a WAV file needs one; set it", advice));
     }
-    if header.kind == Kind::S900 {
+    if header.kind == SampleKind::S900 {
         words.iter_mut().for_each(|word| *word <<= SHIFT);
     }
     Ok(Wav { rate: header.rate().into(), smpl: header.smpl(), words })
