@@ -1,4 +1,4 @@
-//! AKAII, the characters of an S1000.
+//! AKAII, the characters of an S1000 and an S3000.
 
 /// The characters in the order of their codes.
 const CHARACTERS: &[u8; 41] = b"0123456789 ABCDEFGHIJKLMNOPQRSTUVWXYZ#+-.";

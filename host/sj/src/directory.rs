@@ -1,13 +1,16 @@
 //! Directory and map as an image has them, legal or not: what the library doesn't tell of an image that it refuses.
 
-use crate::{akaii, select};
-use skilletjay::{Density, Kind, Slot};
+use crate::{akaii, file_type};
+use skilletjay::{BLOCK, Checked, Density, Kind, Slot};
 
 /// Bytes of a slot.
 const SLOT: usize = 24;
 
-/// Where the map begins, two bytes for each block.
+/// Where the map begins, two bytes for each block: behind the 64 slots that every disk has there, used or not.
 const MAP_AT: usize = SLOT * 64;
+
+/// Where the slots begin that an S3000 disk uses.
+const S3000_AT: usize = 5 * BLOCK;
 
 /// Bytes of a slot that are its name's, with those after it.
 const AREA: usize = 16;
@@ -21,8 +24,12 @@ pub struct Written {
 impl Written {
     /// A slot of an image that is as long as images are.
     pub fn at(kind: Kind, image: &[u8], slot: Slot) -> Written {
+        let directory_at = match kind {
+            Kind::S900 | Kind::S1000 => 0,
+            Kind::S3000 => S3000_AT,
+        };
         let mut bytes = [0; SLOT];
-        bytes.copy_from_slice(&image[SLOT * slot.0..][..SLOT]);
+        bytes.copy_from_slice(&image[directory_at + SLOT * slot.0..][..SLOT]);
         Written { kind, bytes }
     }
 
@@ -30,12 +37,13 @@ impl Written {
     /// so are the bytes after a name where one of them isn't what it should be.
     pub fn name(&self) -> String {
         let (name, after) = self.bytes[..AREA].split_at(self.kind.name_length());
-        let filler = match self.kind {
-            Kind::S900 => 0,
-            Kind::S1000 | Kind::S3000 => 32,
+        let filler: &[u8] = match self.kind {
+            Kind::S900 => &[0; 6],
+            Kind::S1000 => &[32; 4],
+            Kind::S3000 => &[0, 0, 0, 2],
         };
         let mut characters: Vec<Result<char, u8>> = name.iter().map(|&byte| self.character(byte)).collect();
-        if after.iter().any(|&byte| byte != filler) {
+        if after != filler {
             characters.extend(after.iter().map(|&byte| Err(byte)));
         }
         shown(&characters)
@@ -50,15 +58,29 @@ impl Written {
         character.ok_or(byte)
     }
 
-    /// The type; one that is illegal is in quotes.
+    /// The type's letter. An illegal type is in quotes, and on an S3000 disk by its number, since a letter stands for
+    /// another byte there.
     pub fn file_type(&self) -> String {
-        let byte = self.bytes[AREA];
-        let letter = char::from(byte).to_string();
-        match select::bad_type(self.kind, byte) {
-            None => letter,
-            Some(_) if byte.is_ascii_graphic() => format!("{letter:?}"),
-            Some(_) => shown(&[Err(byte)]),
+        let byte = self.type_byte();
+        match (file_type::bad_type(self.kind, byte), self.kind) {
+            (None, _) => char::from(byte & 127).to_string(),
+            (Some(_), Kind::S900 | Kind::S1000) if byte.is_ascii_graphic() => {
+                format!("{:?}", char::from(byte).to_string())
+            }
+            (Some(_), _) => shown(&[Err(byte)]),
         }
+    }
+
+    /// The type as it is stored.
+    pub fn type_byte(&self) -> u8 {
+        self.bytes[AREA]
+    }
+
+    /// The identity of an S3000's slot, if it is another than it should be. Those of other disks decide the kind, and are all
+    /// right where there is one.
+    pub fn bad_identity(&self) -> Option<String> {
+        let [.., first, second] = self.bytes;
+        (self.kind == Kind::S3000 && (first, second) != (0, 12)).then(|| format!("{first},{second}"))
     }
 
     /// The length of the content, which may be 0 or more than there is.
@@ -86,10 +108,11 @@ fn shown(characters: &[Result<char, u8>]) -> String {
 }
 
 /// How many data blocks have 0 in the map and had another value before.
-pub fn freed(density: Density, before: &[u8], after: &[u8]) -> usize {
-    let (first, blocks) = match density {
-        Density::Low => (4, 800),
-        Density::High => (5, 1600),
+pub fn freed(checked: &Checked, before: &[u8], after: &[u8]) -> usize {
+    let (first, blocks) = match (checked.kind, checked.density) {
+        (Kind::S3000, _) => (17, 1600),
+        (_, Density::Low) => (4, 800),
+        (_, Density::High) => (5, 1600),
     };
     let is_free = |image: &[u8], block: usize| image[MAP_AT + 2 * block..][..2] == [0, 0];
     (first..blocks).filter(|&block| !is_free(before, block) && is_free(after, block)).count()
@@ -113,7 +136,9 @@ mod tests {
             for entry in image.entries().expect("accepted") {
                 let written = Written::at(kind, image.bytes(), entry.slot);
                 let told = (written.name(), written.file_type(), written.length());
-                assert_eq!(told, (entry.name, char::from(entry.file_type).to_string(), entry.length));
+                let letter = entry.letter().to_string();
+                assert_eq!(told, (entry.name, letter, entry.length));
+                assert_eq!((written.type_byte(), written.bad_identity()), (entry.file_type, None));
             }
         }
     }
@@ -141,5 +166,39 @@ mod tests {
         assert_eq!(written.name(), r#""A\x29          \x0A\x0A\x0A\x0A""#);
         assert_eq!((written.file_type(), written.length()), ("\"S\"".to_string(), 1 + 512 + 3 * 65_536));
         assert!(written.digits().starts_with("0b290a") && written.digits().len() == 48);
+    }
+
+    #[test]
+    fn slots_of_an_s3000_stand_at_block_5() {
+        let mut image = vec![0; 1600 * BLOCK];
+        let slot = [11, 10, 10, 10, 10, 10, 10, 10, 10, 10, 10, 10, 0, 0, 0, 2, 211, 1, 0, 0, 17, 0, 0, 12];
+        image[5120 + 24 * 511..][..24].copy_from_slice(&slot);
+        let told = |image: &[u8]| {
+            let written = Written::at(Kind::S3000, image, Slot(511));
+            (written.name(), written.file_type(), written.bad_identity())
+        };
+        assert_eq!(told(&image), ("A           ".into(), "S".into(), None));
+        for (at, byte, name, file_type, identity) in [
+            (16, b'S', "A           ", r#""\x53""#, None), // 83 is no S there
+            (16, 219, "A           ", r#""\xDB""#, None),
+            (15, 1, r#""A           \x00\x00\x00\x01""#, "S", None),
+            (12, 32, r#""A           \x20\x00\x00\x02""#, "S", None),
+            (0, 41, r#""\x29           ""#, "S", None),
+            (23, 3, "A           ", "S", Some("0,3".to_string())),
+            (22, 1, "A           ", "S", Some("1,12".to_string())),
+        ] {
+            let mut image = image.clone();
+            image[5120 + 24 * 511 + at] = byte;
+            assert_eq!(told(&image), (name.into(), file_type.into(), identity));
+        }
+    }
+
+    /// System blocks are none that could be freed: an S3000's are 17.
+    #[test]
+    fn data_blocks_alone_are_freed() {
+        let (before, after) = (vec![1; 1600 * BLOCK], vec![0; 1600 * BLOCK]);
+        let freed = |kind, density| freed(&Checked { kind, density, files: 0, free: 0 }, &before, &after);
+        assert_eq!([freed(Kind::S900, Density::Low), freed(Kind::S1000, Density::High)], [796, 1595]);
+        assert_eq!(freed(Kind::S3000, Density::High), 1583);
     }
 }

@@ -1,4 +1,4 @@
-//! `sj`: Akai S900, S950 and S1000 floppy images from the command line.
+//! `sj`: Akai S900, S950, S1000 and S3000 floppy images from the command line.
 //!
 //! Exit status: 0 done, 1 refused, or something lost in a salvage, 2 wrong usage or a file that can't be read or written.
 #![forbid(unsafe_code)]
@@ -9,6 +9,7 @@ mod beside;
 mod commands;
 mod directory;
 mod failure;
+mod file_type;
 mod folder;
 mod image_file;
 mod input;

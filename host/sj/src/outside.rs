@@ -11,9 +11,9 @@ fn stem(entry: &Entry) -> String {
     format!("{first}{name}")
 }
 
-/// The name and the type.
+/// The name and the type's letter.
 pub fn file_name(entry: &Entry) -> String {
-    format!("{}.{}", stem(entry), char::from(entry.file_type))
+    format!("{}.{}", stem(entry), entry.letter())
 }
 
 /// The name of the WAV file that a sample is unpacked to.
@@ -51,6 +51,7 @@ mod tests {
             [entry(0, "a/b       "), entry(1, "A_B       "), entry(2, "..        "), entry(3, "          ")];
         assert_eq!(distinct(&entries, file_name), ["a_b.S", "1-A_B.S", "_...S", "_.S"]);
         assert_eq!(distinct(&entries[..2], wav_name), ["a_b.wav", "1-A_B.wav"]);
+        assert_eq!(file_name(&Entry { file_type: 211, ..entry(0, "A           ") }), "A.S"); // an S3000's
     }
 
     #[test]

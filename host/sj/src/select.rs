@@ -33,7 +33,8 @@ pub fn padded(kind: Kind, name: &str) -> String {
     kind.padded(name.trim_end_matches(' '))
 }
 
-/// A name or a pattern in the letters that the kind has: an S1000's are capitals, and small ones stand for them.
+/// A name or a pattern in the letters that the kind has: an S1000's or S3000's are capitals, and small ones stand for
+/// them.
 pub fn folded(kind: Kind, word: &str) -> String {
     match kind {
         Kind::S900 => word.to_string(),
@@ -89,7 +90,7 @@ fn named<B: AsRef<[u8]>>(
 }
 
 /// Whether a pattern matches the whole of a name: `*` stands for any characters, `?` for one. Letters match in the
-/// case that they are written in, so the pattern for an S1000 disk is folded before.
+/// case that they are written in, so the pattern for an S1000 or S3000 disk is folded before.
 pub fn matches(pattern: &str, name: &str) -> bool {
     let (pattern, name) = (pattern.as_bytes(), name.as_bytes());
     let (mut at, mut from) = (0, 0);
@@ -121,13 +122,12 @@ pub fn refused_name(about: &str, kind: Kind, name: &str, refusal: Refusal) -> Fa
 
 /// What is wrong with a name on a kind of disk, and the rule; None if it is legal.
 pub fn bad_character(kind: Kind, name: &str) -> Option<String> {
-    let (most, rule) = match kind {
-        Kind::S900 => (10, "an S900 name has at most 10 characters of ASCII, space to ~"),
-        Kind::S1000 | Kind::S3000 => (
-            12,
-            "an S1000 name has at most 12 of 0-9, A-Z (small letters are taken as capitals), space and # + - .",
-        ),
+    let most = kind.name_length();
+    let rule = match kind {
+        Kind::S900 => "characters of ASCII, space to ~",
+        Kind::S1000 | Kind::S3000 => "of 0-9, A-Z (small letters are taken as capitals), space and # + - .",
     };
+    let rule = format!("an {kind} name has at most {most} {rule}");
     let legal = |character: &char| match kind {
         Kind::S900 => matches!(character, ' '..='~'),
         Kind::S1000 | Kind::S3000 => {
@@ -143,16 +143,6 @@ pub fn bad_character(kind: Kind, name: &str) -> Option<String> {
         None if length > most => Some(format!("the name has {length} characters: {rule}")),
         None => None,
     }
-}
-
-/// What is wrong with a type on a kind of disk, and the rule; None if it is legal.
-pub fn bad_type(kind: Kind, file_type: u8) -> Option<String> {
-    let (legal, rule) = match kind {
-        Kind::S900 => (file_type.is_ascii_uppercase(), "an S900 type is one of A to Z"),
-        Kind::S1000 | Kind::S3000 => (file_type.is_ascii_lowercase(), "an S1000 type is one of a to z"),
-    };
-    let character = char::from(file_type);
-    (!legal).then(|| format!("the type {character:?} isn't legal: {rule}"))
 }
 
 #[cfg(test)]
@@ -185,18 +175,20 @@ mod tests {
 
     /// Small letters of a pattern stand for capitals where the disk has no others.
     #[test]
-    fn patterns_are_folded_for_an_s1000() {
+    fn patterns_are_folded_for_an_s1000_and_an_s3000() {
         for (pattern, s900, s1000) in
             [("b*", false, true), ("B*", true, true), ("bAsS ??", false, true), ("BASS C?", true, true)]
         {
             assert_eq!(matches(&folded(Kind::S900, pattern), "BASS C2"), s900, "{pattern}");
-            assert_eq!(matches(&folded(Kind::S1000, pattern), "BASS C2"), s1000, "{pattern}");
+            for kind in [Kind::S1000, Kind::S3000] {
+                assert_eq!(matches(&folded(kind, pattern), "BASS C2"), s1000, "{pattern}");
+            }
         }
         assert_eq!(folded(Kind::S1000, "a\u{e9}#9"), "A\u{e9}#9"); // what has no code stays to be refused
     }
 
     #[test]
-    fn illegal_names_and_types_are_told_with_their_rule() {
+    fn illegal_names_are_told_with_their_rule() {
         assert_eq!(bad_character(Kind::S900, "a/b"), None);
         assert_eq!(bad_character(Kind::S1000, "BASS C2"), None);
         assert_eq!(bad_character(Kind::S1000, "abcxyz 09#+-"), None);
@@ -207,7 +199,11 @@ mod tests {
         assert!(words.contains("'/' (2 of 3)") && words.contains("S1000"), "{words}");
         let words = bad_character(Kind::S900, "12345678901").expect("too long");
         assert!(words.contains("11 characters"), "{words}");
-        assert!(bad_type(Kind::S900, b's').is_some_and(|words| words.contains("'s'")));
-        assert_eq!((bad_type(Kind::S900, b'S'), bad_type(Kind::S1000, b's')), (None, None));
+        let words = bad_character(Kind::S3000, "A/B").expect("a slash");
+        assert!(
+            words.contains("'/' (2 of 3)") && words.contains("an S3000 name has at most 12 of"),
+            "{words}"
+        );
+        assert_eq!(bad_character(Kind::S3000, "abcxyz 09#+-"), None);
     }
 }

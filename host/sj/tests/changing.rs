@@ -2,7 +2,7 @@
 
 mod common;
 
-use common::{Folder, Ran, disk};
+use common::{Folder, Ran, disk, sample_type};
 use model::calls;
 use model::layout::LAYOUTS;
 use std::fs;
@@ -15,12 +15,11 @@ fn put_and_rm_do_what_the_model_does() {
     let folder = Folder::new("put");
     for (at, layout) in LAYOUTS.into_iter().enumerate() {
         let mut image = disk(layout, 20, 100, at as u64);
-        let (file_type, letters) = if at < 2 { ("S", 10) } else { ("s", 12) };
+        let (letters, byte, file_type) = sample_type(&image);
         folder.write("a.img", &image);
         folder.write("new", &[7; 3000]);
         let name = format!("{:letters$}", "NEW 1");
-        let slot =
-            calls::put(&mut image, name.as_bytes(), file_type.as_bytes()[0], &[7; 3000]).expect("room");
+        let slot = calls::put(&mut image, name.as_bytes(), byte, &[7; 3000]).expect("room");
         let said = folder.sj(&["put", "a.img", "new", "--name", "NEW 1", "--type", file_type]).done();
         assert_eq!(said, format!("#{slot}\n"));
         assert!(folder.read("a.img") == image);

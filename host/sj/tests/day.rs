@@ -217,8 +217,8 @@ fn answers_are_told_as_json() {
         {\"accepted\":1,\"refused\":1,\"refusals\":{\"1\":1},\"failed\":1}\n";
     assert_eq!((ran.status, ran.err.as_str()), (Some(2), ""));
     assert_eq!(String::from_utf8(ran.out).expect("text"), lines);
-    let a = "\"slot\":0,\"name\":\"A\",\"stored\":\"A         \",\"type\":\"S\",\"length\":2";
-    let b = "\"slot\":1,\"name\":\"B\",\"stored\":\"B         \",\"type\":\"S\",\"length\":1";
+    let a = r#""slot":0,"name":"A","stored":"A         ","type":"S","type_byte":83,"length":2"#;
+    let b = r#""slot":1,"name":"B","stored":"B         ","type":"S","type_byte":83,"length":1"#;
     for (words, line) in [
         (&["put", "a.img", "B.S"][..], format!("{{\"file\":\"a.img\",{b},\"from\":\"B.S\"}}\n")),
         (&["get", "a.img", "A", "-o", "x"], format!("{{\"file\":\"a.img\",{a},\"to\":\"x\"}}\n")),

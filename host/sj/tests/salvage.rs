@@ -2,11 +2,11 @@
 
 mod common;
 
-use common::{Folder, Ran, disk};
+use common::{Folder, Ran, disk, sample_type, set_map, slot_at};
 use model::calls;
 use model::disk::{content, read};
 use model::faults;
-use model::layout::{Kind, LAYOUTS, Layout, SLOTS};
+use model::layout::{Kind, LAYOUTS, Layout};
 use model::random::Random;
 
 const S900_LOW: Layout = LAYOUTS[0];
@@ -14,7 +14,7 @@ const S900_LOW: Layout = LAYOUTS[0];
 /// A disk with four files, A to D, of two blocks each; the first has the two first data blocks, and so on.
 fn four(layout: Layout) -> Vec<u8> {
     let mut image = disk(layout, 0, 0, 1);
-    let (file_type, letters) = if layout.kind == Kind::S900 { (b'S', 10) } else { (b's', 12) };
+    let (letters, file_type, _) = sample_type(&image);
     for name in ["A", "B", "C", "D"] {
         let name = format!("{name:letters$}");
         calls::put(&mut image, name.as_bytes(), file_type, &[name.as_bytes()[0]; 2000]).expect("room");
@@ -24,20 +24,19 @@ fn four(layout: Layout) -> Vec<u8> {
 
 /// Changes a byte of a slot.
 fn set_slot(image: &mut [u8], slot: usize, at: usize, byte: u8) {
-    image[24 * slot + at] = byte;
-}
-
-/// Changes a block's map value.
-fn set_map(image: &mut [u8], block: usize, value: usize) {
-    image[1536 + 2 * block..][..2].copy_from_slice(&(value as u16).to_le_bytes());
+    let at = slot_at(image, slot, at);
+    image[at] = byte;
 }
 
 /// Gives slot 2 a fault by which it is dropped alone.
 fn spoil(image: &mut [u8], layout: Layout, number: u32) {
     let block = layout.first() + 4; // C's first
     match number {
-        4 => set_slot(image, 2, 16, 200),
-        5 => image.copy_within(24..24 + 16, 48),
+        4 => set_slot(image, 2, 16, 255),
+        5 => {
+            let lower = slot_at(image, 1, 0);
+            image.copy_within(lower..lower + 16, lower + 24);
+        }
         6 => set_map(image, block, 1),
         7 => set_map(image, block, layout.end_mark()),
         _ => {
@@ -156,13 +155,13 @@ fn a_dropped_slot_is_in_nobodys_way() {
     let folder = Folder::new("salvage-way");
     for layout in LAYOUTS {
         let mut image = four(layout);
-        set_slot(&mut image, 1, 16, 200);
+        set_slot(&mut image, 1, 16, 255);
         spoil(&mut image, layout, 5); // C is called B
         assert_eq!(dropped(&lossy(&folder, &image)), [(1, 4)]);
         let (_, disk) = mended(&folder);
         assert!(disk.file(2).is_some_and(|file| file.name.starts_with(b"B ")));
         let mut image = four(layout);
-        set_slot(&mut image, 1, 16, 200);
+        set_slot(&mut image, 1, 16, 255);
         set_slot(&mut image, 2, 20, (layout.first() + 2) as u8); // C has B's chain
         assert_eq!(dropped(&lossy(&folder, &image)), [(1, 4)]);
         let (mended, disk) = mended(&folder);
@@ -195,7 +194,7 @@ fn a_map_may_be_mended_without_a_loss() {
         assert!(said.contains("mended in place\n"), "{said}");
         assert!(said.ends_with("  4 slots kept, 0 dropped, 1 map value changed, 1 block freed\n"), "{said}");
         assert!(folder.read("a.img") == four(layout));
-        if layout.kind == Kind::S1000 {
+        if layout.kind != Kind::S900 {
             set_map(&mut image, layout.first() - 1, 0);
             set_map(&mut image, 0, 5);
             folder.write("a.img", &image);
@@ -238,12 +237,12 @@ fn a_statement_in_json() {
     let expected = concat!(
         r#"{"file":"a.img","kind":"S900","density":"low","files":2,"free":792,"free_bytes":811008,"changed":true,"#,
         r#""dry_run":false,"to":"b.img","kept":2,"dropped":2,"map_values":4,"freed":4,"slots":["#,
-        r#"{"slot":0,"name":"A","stored":"A         ","type":"S","length":2000,"fate":"kept"},"#,
-        r#"{"slot":1,"name":"\"B\\xFF        \"","stored":"\"B\\xFF        \"","type":"S","length":2000,"fate":"dropped","#,
+        r#"{"slot":0,"name":"A","stored":"A         ","type":"S","type_byte":83,"length":2000,"fate":"kept"},"#,
+        r#"{"slot":1,"name":"\"B\\xFF        \"","stored":"\"B\\xFF        \"","type":"S","type_byte":83,"length":2000,"fate":"dropped","#,
         r#""refusal":4,"words":"a slot of the directory is malformed","bytes":"42ff202020202020202000000000000053d0070006000000"},"#,
-        r#"{"slot":2,"name":"C","stored":"C         ","type":"S","length":2000,"fate":"dropped","refusal":6,"#,
+        r#"{"slot":2,"name":"C","stored":"C         ","type":"S","type_byte":83,"length":2000,"fate":"dropped","refusal":6,"#,
         r#""words":"a file's chain of blocks leaves the data area","bytes":"4320202020202020202000000000000053d0070008000000"},"#,
-        r#"{"slot":3,"name":"D","stored":"D         ","type":"S","length":2000,"fate":"kept"}]}"#,
+        r#"{"slot":3,"name":"D","stored":"D         ","type":"S","type_byte":83,"length":2000,"fate":"kept"}]}"#,
         "\n"
     );
     assert_eq!((ran.status, String::from_utf8(ran.out).expect("text").as_str()), (Some(1), expected));
@@ -297,7 +296,7 @@ fn many_are_summed_up() {
 fn damaged_disks_are_mended() {
     let (folder, mut random) = (Folder::new("salvage-damage"), Random::new(4));
     for turn in 0..60 {
-        let layout = LAYOUTS[turn % 4];
+        let layout = LAYOUTS[turn % LAYOUTS.len()];
         let mut image = disk(layout, 30, 100, turn as u64);
         faults::damage(&mut image, layout, &mut random);
         folder.write("a.img", &image);
@@ -311,11 +310,12 @@ fn damaged_disks_are_mended() {
         assert_eq!(ran.status, Some(i32::from(!dropped(&lines).is_empty())), "{said}");
         let mended = folder.read("mended.img");
         let disk = read(&mended).expect("accepted");
-        let used: Vec<usize> = (0..SLOTS).filter(|&slot| disk.file(slot).is_some()).collect();
+        let used: Vec<usize> = (0..disk.files.len()).filter(|&slot| disk.file(slot).is_some()).collect();
         let kept =
             |slot: &usize| lines.iter().any(|line| line.trim_start().starts_with(&format!("#{slot} ")));
         assert!(used.iter().all(kept) && lines.len() == 2 + used.len() + dropped(&lines).len(), "{said}");
-        assert!(mended[5120..] == image[5120..]);
+        let data = 1024 * layout.first();
+        assert!(mended[data..] == image[data..]);
         let told = folder.sj(&["salvage", "mended.img", "--dry-run"]).done();
         assert!(told.contains(", nothing to mend, it is as it was\n"), "{told}");
     }

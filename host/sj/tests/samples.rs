@@ -63,7 +63,7 @@ fn a_sample_is_unpacked_straight_from_an_image() {
     assert_eq!(chunk(&folder.read("BASS C2.wav"), b"data"), Some(words(&files[3])));
     assert_eq!(folder.sj(&["unpack", "a.img", "#0", "-o", "-"]).out, first);
     let json = folder.sj(&["unpack", "a.img", "#0", "-o", "x.wav", "--json"]).done();
-    let expected = "{\"file\":\"a.img\",\"slot\":0,\"name\":\"BASS C2\",\"stored\":\"BASS C2     \",\"type\":\"s\",\
+    let expected = "{\"file\":\"a.img\",\"slot\":0,\"name\":\"BASS C2\",\"stored\":\"BASS C2     \",\"type\":\"s\",\"type_byte\":115,\
                     \"length\":2150,\"to\":\"x.wav\"}\n";
     assert_eq!((json.as_str(), folder.read("x.wav")), (expected, first));
     folder.sj(&["unpack", "a.img", "BROKEN"]).failed(1, &[BROKEN]);

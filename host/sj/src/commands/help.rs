@@ -46,7 +46,7 @@ pub fn version(arguments: &mut Arguments) -> Result<(), Failure> {
 
 fn overview() -> String {
     let mut told =
-        String::from("sj reads and writes floppy images of Akai S900, S950 and S1000 samplers.\n\n");
+        String::from("sj reads and writes floppy images of Akai S900, S950, S1000 and S3000 samplers.\n\n");
     for command in &COMMANDS {
         for usage in command.usage {
             let _ = writeln!(told, "  {usage}");

@@ -28,7 +28,7 @@ pub fn run(arguments: &mut Arguments) -> Result<(), Failure> {
 fn in_lines(about: &str, checked: &Checked, entries: &[Entry]) -> String {
     let mut text = check::line(about, checked);
     for entry in entries {
-        let (slot, file_type) = (entry.slot.to_string(), char::from(entry.file_type));
+        let (slot, file_type) = (entry.slot.to_string(), entry.letter());
         let _ = writeln!(text, "{slot:>4} {file_type} {:>8} [{}]", entry.length, entry.name);
     }
     text
@@ -39,12 +39,13 @@ fn in_json(about: &str, checked: &Checked, entries: &[Entry]) -> String {
     check::object(about, checked).raw("entries", format!("[{}]", entries.join(","))).line()
 }
 
-/// A file of a disk as fields: its name without the padding, and as it is stored.
+/// A file of a disk as fields: its name without the padding and as it is stored, its type's letter and byte.
 pub fn fields(object: Object, entry: &Entry) -> Object {
     object
         .number("slot", entry.slot.0)
         .text("name", entry.name.trim_end())
         .text("stored", &entry.name)
-        .text("type", &char::from(entry.file_type).to_string())
+        .text("type", &entry.letter().to_string())
+        .number("type_byte", entry.file_type.into())
         .number("length", entry.length)
 }

@@ -3,6 +3,7 @@
 use super::ls;
 use crate::arguments::{Arguments, text};
 use crate::failure::{Failure, counting, named, plain};
+use crate::file_type::{self, Typed};
 use crate::image_file::{self, Changing};
 use crate::json::Object;
 use crate::manner::Manner;
@@ -18,7 +19,7 @@ const MOST: u64 = 16_777_215;
 struct New {
     from: PathBuf,
     name: String,
-    file_type: u8,
+    file_type: Typed,
     content: Vec<u8>,
 }
 
@@ -49,7 +50,7 @@ fn new_files(arguments: &mut Arguments) -> Result<Vec<New>, Failure> {
         let name = name.clone().or(own_name).ok_or_else(|| unnamed(&from, "name", "--name NAME"))?;
         refuse_empty(arguments, &name)?;
         let file_type = match &file_type {
-            Some(word) => one_letter(word)?,
+            Some(word) => Typed::of(word)?,
             None => own_type.ok_or_else(|| unnamed(&from, "type", "--type T"))?,
         };
         let content = image_file::read_up_to(&from, MOST)?;
@@ -59,13 +60,13 @@ fn new_files(arguments: &mut Arguments) -> Result<Vec<New>, Failure> {
 }
 
 /// Name and type of a file called NAME.t; a file of another name has a name alone.
-fn split(from: &Path) -> (Option<String>, Option<u8>) {
+fn split(from: &Path) -> (Option<String>, Option<Typed>) {
     let Some(whole) = from.file_name().and_then(|name| name.to_str()).filter(|name| *name != "-") else {
         return (None, None);
     };
     match whole.rsplit_once('.') {
         Some((name, file_type)) if file_type.len() == 1 => {
-            (Some(name.to_string()), Some(file_type.as_bytes()[0]))
+            (Some(name.to_string()), Some(Typed::Letter(file_type.as_bytes()[0])))
         }
         _ => (None, None),
     }
@@ -73,13 +74,6 @@ fn split(from: &Path) -> (Option<String>, Option<u8>) {
 
 fn unnamed(from: &Path, what: &str, option: &str) -> Failure {
     Failure::usage(format!("{} tells no {what}: call it NAME.t, or give {option}", plain(&named(from))))
-}
-
-fn one_letter(word: &str) -> Result<u8, Failure> {
-    match word.as_bytes() {
-        &[letter] => Ok(letter),
-        _ => Err(Failure::usage("the type is one letter")),
-    }
 }
 
 /// A name of spaces alone is legal on a disk, and hard to see: it has to be asked for.
@@ -101,12 +95,13 @@ fn put_all(about: &str, image: &mut Image, files: &[New], replace: bool) -> Resu
 }
 
 fn put_one(about: &str, image: &mut Image, kind: Kind, file: &New, replace: bool) -> Result<Entry, Failure> {
+    let file_type = file.file_type.on(kind)?;
     if replace && image.find(select::padded(kind, &file.name)).is_ok() {
         image
             .remove(select::padded(kind, &file.name))
             .map_err(|refusal| select::refused_name(about, kind, &file.name, refusal))?;
     }
-    put_named(about, image, kind, (&file.name, file.file_type), &file.content)
+    put_named(about, image, kind, (&file.name, file_type), &file.content)
 }
 
 /// Puts a content under a name and a type, or says in the disk's terms what is wrong.
@@ -120,7 +115,11 @@ pub fn put_named(
     let put = image.put(select::padded(kind, name), file_type, content).and_then(|slot| image.list(slot));
     put.map_err(|refusal| match refusal.number() {
         11 if select::bad_character(kind, name).is_none() => {
-            let words = select::bad_type(kind, file_type).unwrap_or_default();
+            let words = file_type::bad_type(kind, file_type).unwrap_or_default();
+            Failure::refused_as(about, refusal, words).on(name)
+        }
+        14 => {
+            let words = format!("all {} slots are used", kind.slots());
             Failure::refused_as(about, refusal, words).on(name)
         }
         15 => {

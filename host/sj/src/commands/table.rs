@@ -80,7 +80,11 @@ const DRY_RUN: Flag =
 const FORCE_EITHER: Flag =
     Flag { name: "--force", value: None, about: "replace what -o names; in place, as put --force" };
 const NAME: Flag = Flag { name: "--name", value: Some("NAME"), about: "the name on the disk" };
-const TYPE: Flag = Flag { name: "--type", value: Some("T"), about: "the type, a letter" };
+const TYPE: Flag = Flag {
+    name: "--type",
+    value: Some("T"),
+    about: "the type, a letter; on an S3000 disk also its number, as S or 211",
+};
 const REPLACE: Flag = Flag { name: "--replace", value: None, about: "take the place of a file of that name" };
 const EMPTY: Flag = Flag { name: "--allow-empty-name", value: None, about: "take a name of spaces alone" };
 const ALL_SAMPLES: Flag =
@@ -113,8 +117,8 @@ pub const COMMANDS: [Command; 12] = [
         usage: &["sj ls IMAGE|DIR.."],
         about: "Tells what images hold",
         flags: &[],
-        notes: "A file's line has its slot, type, length and name. In JSON name is without its padding and stored \
-                is as the disk has it.",
+        notes: "A file's line has its slot, type, length and name. An S3000 type is told as its capital, S for 211. In JSON \
+                name is without its padding and stored is as the disk has it; type is the letter and type_byte the byte.",
         run: ls::run,
     },
     Command {
@@ -123,9 +127,9 @@ pub const COMMANDS: [Command; 12] = [
         about: "Copies files out of an image, whole or not at all",
         flags: &[&TO, &ALL, &FORCE_OUT],
         notes: "'#0' is the file in slot 0 (in quotes, as a shell takes # for a comment). * and ? in a name stand for any \
-                characters and for one. On an S1000 disk small letters stand for capitals, in patterns too; S900 names keep \
-                their case. Without -o a file gets its name and its type, NAME.t, and replaces nothing that is there \
-                but by --force. Of several files -o names the folder.",
+                characters and for one. On an S1000 or S3000 disk small letters stand for capitals, in patterns too; S900 \
+                names keep their case. Without -o a file gets its name and its type, NAME.t (NAME.S of an S3000's \
+                type S (211)), and replaces nothing that is there but by --force. Of several files -o names the folder.",
         run: get::run,
     },
     Command {
@@ -134,7 +138,8 @@ pub const COMMANDS: [Command; 12] = [
         about: "Puts files into an image, all or none, and tells their slots",
         flags: &[&NAME, &TYPE, &REPLACE, &EMPTY, &FORCE_IN, &TIMEOUT],
         notes: "Name and type are those of a file called NAME.t, as get writes it, or for one file what the options \
-                say. An S1000 disk keeps a name in capitals, however it is typed; an S900 disk keeps its case. With \
+                say. An S1000 or S3000 disk keeps a name in capitals, however it is typed; an S900 disk keeps its case. \
+                A type is A to Z on an S900 disk, a to z on an S1000 disk, A (193) to Z (218) on an S3000 disk. With \
                 --replace a file that has the name goes when its successor is in; if that is refused it stays.",
         run: put::run,
     },
@@ -143,8 +148,8 @@ pub const COMMANDS: [Command; 12] = [
         usage: &["sj mv IMAGE OLD NEW"],
         about: "Gives a file another name",
         flags: &[&REPLACE, &EMPTY, &FORCE_IN, &TIMEOUT],
-        notes: "OLD is a name or a slot, as '#0'. An S1000 disk keeps NEW in capitals. The content and the type stay; the \
-                slot may be another, and is told.",
+        notes: "OLD is a name or a slot, as '#0'. An S1000 or S3000 disk keeps NEW in capitals. The content and the type \
+                stay; the slot may be another, and is told.",
         run: change::rename,
     },
     Command {
@@ -152,8 +157,8 @@ pub const COMMANDS: [Command; 12] = [
         usage: &["sj rm IMAGE NAME|'#SLOT'.."],
         about: "Removes files from an image, all or none",
         flags: &[&FORCE_IN, &TIMEOUT],
-        notes: "'#0' is the file in slot 0; * and ? in a name stand for any characters and for one. On an S1000 disk small \
-                letters stand for capitals.",
+        notes: "'#0' is the file in slot 0; * and ? in a name stand for any characters and for one. On an S1000 or S3000 \
+                disk small letters stand for capitals.",
         run: change::remove,
     },
     Command {
@@ -183,7 +188,8 @@ pub const COMMANDS: [Command; 12] = [
         about: "Makes WAV files of samples, of a sample file or straight from an image",
         flags: &[&TO, &ALL_SAMPLES, &FORCE_OUT],
         notes: "One argument is a sample file; more are an image and its samples, by name, '#slot' or pattern as for get. \
-                --all takes the files of type s on an S1000 disk, S on an S900's. Without -o a sample gets NAME.wav, and \
+                --all takes the files of type s on an S1000 disk, S on an S900's, S (211) on an S3000's; a sample in the \
+                S3000's own form, with a header of 192 bytes, is refused. Without -o a sample gets NAME.wav, and \
                 replaces nothing that is there but by --force. Of several samples one that is refused is told and passed \
                 over, and a closing line counts. Root note and loops go into a smpl chunk. The 12 bits of an S900 word \
                 are the upper of 16.",

@@ -47,7 +47,7 @@ impl Statement {
             used: used(&checked, &given, &salvaged),
             changed: given != *image,
             map_values: salvaged.map_values,
-            freed: directory::freed(checked.density, given.bytes(), image.bytes()),
+            freed: directory::freed(&checked, given.bytes(), image.bytes()),
             checked,
             about,
         })
@@ -140,7 +140,11 @@ impl Used {
     fn fate(&self) -> String {
         match self.dropped {
             None => "kept".into(),
-            Some(refusal) => format!("dropped: {} (refusal {})", refusal.words(), refusal.number()),
+            Some(refusal) => {
+                let identity = self.written.bad_identity();
+                let identity = identity.map_or(String::new(), |told| format!(", its identity is {told}"));
+                format!("dropped: {}{identity} (refusal {})", refusal.words(), refusal.number())
+            }
         }
     }
 
@@ -151,6 +155,7 @@ impl Used {
             .text("name", self.written.name().trim_end())
             .text("stored", &self.written.name())
             .text("type", &self.file_type())
+            .number("type_byte", self.written.type_byte().into())
             .number("length", self.written.length());
         match self.dropped {
             None => object.text("fate", "kept"),
