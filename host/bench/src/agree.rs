@@ -19,12 +19,7 @@ pub fn hold() -> usize {
 
 fn disks(random: &mut Random) -> usize {
     let layout = random.pick(&LAYOUTS);
-    let plan = match random.below(3) {
-        0 => Plan::scattered(layout, random),
-        1 => Plan::near_full(random),
-        _ => Plan::full_directory(random),
-    };
-    let image = maker::disk(layout, plan, random);
+    let image = maker::disk(layout, Plan::any(layout, random), random);
     let disk = model::disk::read(&image).expect("a maker's disk is accepted");
     for fault in FAULTS {
         let mut spoilt = image.clone();

@@ -1,7 +1,7 @@
 //! The calls on an image (document 01, "Calls on an accepted disk"). Each checks first.
 
 use crate::disk::{content, read};
-use crate::layout::{BLOCK, Layout, MAP_AT, SLOT_BYTES, SLOTS, blocks_for};
+use crate::layout::{BLOCK, Layout, MAP_AT, SLOT_BYTES, TYPE_AT, blocks_for};
 use crate::names::{area_of, is_type, kept};
 use crate::{Answer, refuse, store};
 
@@ -119,7 +119,7 @@ pub fn put(image: &mut [u8], name: &[u8], file_type: u8, content: &[u8]) -> Answ
     if let Some(slot) = disk.slot_of(&name) {
         return refuse(12, slot);
     }
-    let Some(slot) = (0..SLOTS).find(|&slot| disk.files[slot].is_none()) else { return refuse(14, 0) };
+    let Some(slot) = disk.files.iter().position(Option::is_none) else { return refuse(14, 0) };
     let mut blocks = disk.free();
     if blocks_for(content.len()) > blocks.len() {
         return refuse(15, 0);
@@ -128,7 +128,7 @@ pub fn put(image: &mut [u8], name: &[u8], file_type: u8, content: &[u8]) -> Answ
         return refuse(16, 0);
     }
     blocks.truncate(blocks_for(content.len()));
-    write_slot(image, slot, &area, file_type, content.len(), blocks[0]);
+    write_slot(image, layout, slot, &area, (file_type, content.len(), blocks[0]));
     link(image, layout, &blocks);
     for (&block, part) in blocks.iter().zip(content.chunks(BLOCK)) {
         let stored = &mut image[block * BLOCK..][..BLOCK];
@@ -145,29 +145,29 @@ pub fn remove(image: &mut [u8], name: &[u8]) -> Answer<()> {
     for block in disk.files[slot].iter().flat_map(|file| &file.chain) {
         set_map(image, *block, 0);
     }
-    clear_slot(image, slot);
+    clear_slot(image, disk.layout, slot);
     Ok(())
 }
 
 /// Makes a slot zeros but for its identity.
-pub(crate) fn clear_slot(image: &mut [u8], slot: usize) {
-    image[SLOT_BYTES * slot..][..22].fill(0);
+pub(crate) fn clear_slot(image: &mut [u8], layout: Layout, slot: usize) {
+    image[layout.slot_at(slot)..][..22].fill(0);
 }
 
-/// Writes a slot but for its identity.
+/// Writes a slot's name area, its type, length and start, and the identity, which stands there already but on S3000 disks.
 pub(crate) fn write_slot(
     image: &mut [u8],
+    layout: Layout,
     slot: usize,
     area: &[u8; 16],
-    file_type: u8,
-    length: usize,
-    start: usize,
+    (file_type, length, start): (u8, usize, usize),
 ) {
-    let bytes = &mut image[SLOT_BYTES * slot..][..22];
+    let bytes = &mut image[layout.slot_at(slot)..][..SLOT_BYTES];
     bytes[0..16].copy_from_slice(area);
-    bytes[16] = file_type;
+    bytes[TYPE_AT] = file_type;
     store(&mut bytes[17..20], length);
     store(&mut bytes[20..22], start);
+    bytes[22..24].copy_from_slice(&layout.identity());
 }
 
 /// Chains blocks in their order, the end mark at the last.

@@ -1,8 +1,11 @@
 //! The check: an image taken apart by document 01's rules, 1 to 9 in their order.
 
-use crate::layout::{BLOCK, Density, Kind, Layout, MAP_AT, SLOT_BYTES, SLOTS, SYSTEM, blocks_for};
+use crate::layout::{
+    BLOCK, Density, IGNORED, Kind, Layout, MAP_AT, SLOT_BYTES, SLOTS, SYSTEM, TYPE_AT, blocks_for,
+};
 use crate::names::{is_type, name_of};
 use crate::{Answer, number, refuse};
+use std::collections::BTreeSet;
 
 /// A file: what its slot says, and its blocks.
 #[derive(Clone, Debug, PartialEq, Eq)]
@@ -41,7 +44,7 @@ impl Disk {
 
     /// The slot of the file with a name in ASCII, as the disk keeps it.
     pub fn slot_of(&self, name: &[u8]) -> Option<usize> {
-        (0..SLOTS).find(|&slot| self.file(slot).is_some_and(|file| file.name == name))
+        (0..self.files.len()).find(|&slot| self.file(slot).is_some_and(|file| file.name == name))
     }
 }
 
@@ -60,8 +63,8 @@ pub fn read(image: &[u8]) -> Answer<Disk> {
     let layout = layout_of(image)?;
     let map = map_of(image, layout);
     system_values(layout, &map)?;
-    let slots: Vec<Slot> = (0..SLOTS).map(|slot| slot_at(image, slot)).collect();
-    let names = names(layout.kind, &slots)?;
+    let slots: Vec<Slot> = (0..layout.slots()).map(|slot| slot_at(image, layout, slot)).collect();
+    let names = names(layout, &slots)?;
     names_differ(&names)?;
     let chains = chains(layout, &map, &slots)?;
     chains_apart(layout, &chains)?;
@@ -72,7 +75,7 @@ pub fn read(image: &[u8]) -> Answer<Disk> {
 /// Kind and density: 1, 2.
 pub(crate) fn layout_of(image: &[u8]) -> Answer<Layout> {
     let Some(density) = density_of(image.len()) else { return refuse(1, 0) };
-    let Some(kind) = kind_of(image) else { return refuse(2, 0) };
+    let Some(kind) = kind_of(image, density) else { return refuse(2, 0) };
     Ok(Layout { kind, density })
 }
 
@@ -89,10 +92,13 @@ fn density_of(length: usize) -> Option<Density> {
     }
 }
 
-/// Empty slots count too: all 64 identities decide.
-fn kind_of(image: &[u8]) -> Option<Kind> {
+/// Slot 0 of the first directory is asked whether that is ignored, before any identity. If not, all 64 identities decide:
+/// empty slots count too.
+fn kind_of(image: &[u8], density: Density) -> Option<Kind> {
     let all = |identity: [u8; 2]| (0..SLOTS).all(|slot| image[SLOT_BYTES * slot + 22..][..2] == identity);
-    if all([0, 0]) {
+    if image[TYPE_AT] == IGNORED {
+        (density == Density::High).then_some(Kind::S3000)
+    } else if all([0, 0]) {
         Some(Kind::S900)
     } else if all([0, 3]) {
         Some(Kind::S1000)
@@ -101,10 +107,10 @@ fn kind_of(image: &[u8]) -> Option<Kind> {
     }
 }
 
-/// 3: the lowest system block of an S1000 disk with another value.
+/// 3: the lowest system block with another value, on a disk that marks them.
 fn system_values(layout: Layout, map: &[usize]) -> Answer<()> {
     match (0..layout.first()).find(|&block| map[block] != SYSTEM) {
-        Some(block) if layout.kind == Kind::S1000 => refuse(3, block),
+        Some(block) if layout.marks_system() => refuse(3, block),
         _ => Ok(()),
     }
 }
@@ -115,6 +121,7 @@ pub(crate) struct Slot<'a> {
     file_type: u8,
     length: usize,
     start: usize,
+    identity: &'a [u8],
 }
 
 impl Slot<'_> {
@@ -122,31 +129,34 @@ impl Slot<'_> {
         self.file_type != 0
     }
 
-    /// The name in ASCII of a used slot, or None if it is malformed.
-    pub(crate) fn well_formed(&self, kind: Kind) -> Option<Vec<u8>> {
-        name_of(kind, self.area).filter(|_| is_type(kind, self.file_type) && self.length >= 1)
+    /// The name in ASCII of a used slot, or None if it is malformed. Identities were all asked for with the kind, but for
+    /// those of an S3000 disk.
+    pub(crate) fn well_formed(&self, layout: Layout) -> Option<Vec<u8>> {
+        let told = is_type(layout.kind, self.file_type) && self.length >= 1;
+        name_of(layout.kind, self.area).filter(|_| told && self.identity == layout.identity())
     }
 }
 
-pub(crate) fn slot_at(image: &[u8], slot: usize) -> Slot<'_> {
-    let bytes = &image[SLOT_BYTES * slot..][..SLOT_BYTES];
+pub(crate) fn slot_at(image: &[u8], layout: Layout, slot: usize) -> Slot<'_> {
+    let bytes = &image[layout.slot_at(slot)..][..SLOT_BYTES];
     Slot {
         area: &bytes[0..16],
-        file_type: bytes[16],
+        file_type: bytes[TYPE_AT],
         length: number(&bytes[17..20]),
         start: number(&bytes[20..22]),
+        identity: &bytes[22..24],
     }
 }
 
 /// The used slots' names in ASCII, or 4: the lowest malformed slot.
-fn names(kind: Kind, slots: &[Slot]) -> Answer<Vec<Option<Vec<u8>>>> {
+fn names(layout: Layout, slots: &[Slot]) -> Answer<Vec<Option<Vec<u8>>>> {
     let mut names = Vec::new();
     for (at, slot) in slots.iter().enumerate() {
         if !slot.is_used() {
             names.push(None);
             continue;
         }
-        match slot.well_formed(kind) {
+        match slot.well_formed(layout) {
             Some(name) => names.push(Some(name)),
             None => return refuse(4, at),
         }
@@ -156,7 +166,8 @@ fn names(kind: Kind, slots: &[Slot]) -> Answer<Vec<Option<Vec<u8>>>> {
 
 /// 5: the lowest slot whose name stands in a lower one.
 fn names_differ(names: &[Option<Vec<u8>>]) -> Answer<()> {
-    match (0..SLOTS).find(|&slot| names[slot].is_some() && names[..slot].contains(&names[slot])) {
+    let mut lower = BTreeSet::new();
+    match names.iter().position(|name| name.is_some() && !lower.insert(name)) {
         Some(slot) => refuse(5, slot),
         None => Ok(()),
     }
@@ -180,7 +191,8 @@ pub(crate) fn walk(layout: Layout, map: &[usize], slot: &Slot) -> Result<Vec<usi
     if !layout.is_link(slot.start) {
         return Err(6);
     }
-    let mut chain = vec![slot.start];
+    let mut chain = Vec::with_capacity(blocks_for(slot.length).min(layout.blocks()));
+    chain.push(slot.start);
     for _ in 1..blocks_for(slot.length) {
         let value = map[chain[chain.len() - 1]];
         if value == layout.end_mark() {

@@ -3,10 +3,10 @@
 use crate::Refusal;
 use crate::calls::set_map;
 use crate::disk::Disk;
-use crate::layout::{BLOCK, Kind, Layout, MAP_AT, SLOT_BYTES, SLOTS, SYSTEM};
+use crate::layout::{BLOCK, Density, IGNORED, Kind, Layout, MAP_AT, SLOT_BYTES, SLOTS, SYSTEM, TYPE_AT};
 use crate::names::name_length;
 use crate::random::Random;
-use crate::store;
+use crate::{number, store};
 
 /// One fault of a disk, by the number that it is refused with.
 #[derive(Clone, Copy, Debug, PartialEq, Eq)]
@@ -15,7 +15,9 @@ pub enum Fault {
     Length,
     /// 2
     Identity,
-    /// 3, on S1000 disks
+    /// 2, or 3 where the density is high: an S900 or S1000 disk that says to be an S3000's
+    Ignored,
+    /// 3, but on S900 disks
     System,
     /// 4: type
     Type,
@@ -25,6 +27,8 @@ pub enum Fault {
     Filler,
     /// 4: length 0
     Empty,
+    /// 4: identity, on S3000 disks
+    SlotIdentity,
     /// 5
     NameTwice,
     /// 6: start
@@ -44,14 +48,16 @@ pub enum Fault {
 }
 
 /// All faults.
-pub const FAULTS: [Fault; 15] = [
+pub const FAULTS: [Fault; 17] = [
     Fault::Length,
     Fault::Identity,
+    Fault::Ignored,
     Fault::System,
     Fault::Type,
     Fault::Name,
     Fault::Filler,
     Fault::Empty,
+    Fault::SlotIdentity,
     Fault::NameTwice,
     Fault::Start,
     Fault::Link,
@@ -62,14 +68,19 @@ pub const FAULTS: [Fault; 15] = [
     Fault::Lost,
 ];
 
+/// Those that leave length and kind as they are.
+pub const OF_KNOWN_KIND: &[Fault] = FAULTS.split_at(3).1;
+
 /// Gives an image one fault and says how a valid one is refused for it; None if this disk can't have the fault.
 /// The disk is what the image held while it was valid, so faults can be heaped.
 pub fn spoil(image: &mut Vec<u8>, disk: &Disk, fault: Fault, random: &mut Random) -> Option<Refusal> {
     let (number, place) = match fault {
         Fault::Length => spoil_length(image, random),
         Fault::Identity => spoil_identity(image, disk, random),
+        Fault::Ignored => spoil_kind(image, disk)?,
         Fault::System => spoil_system(image, disk, random)?,
         Fault::Type | Fault::Name | Fault::Filler | Fault::Empty => spoil_form(image, disk, fault, random)?,
+        Fault::SlotIdentity => spoil_own_identity(image, disk, random)?,
         Fault::NameTwice => spoil_names(image, disk, random)?,
         Fault::Start | Fault::Link | Fault::Short | Fault::Long => spoil_chain(image, disk, fault, random)?,
         Fault::Shared => spoil_shared(image, disk, random)?,
@@ -85,36 +96,57 @@ fn spoil_length(image: &mut Vec<u8>, random: &mut Random) -> (u32, usize) {
     (1, 0)
 }
 
+/// An odd identity in the first directory; on an S3000 disk, after it is made the one that counts.
 fn spoil_identity(image: &mut [u8], disk: &Disk, random: &mut Random) -> (u32, usize) {
-    let own = disk.layout.identity();
-    let other = random.pick(&[[0, 0], [0, 3], [3, 0], [0, 1], [1, 0], [0, 2], [1, 3], [0, 255]]);
+    let own = if disk.layout.kind == Kind::S3000 { [0, 0] } else { disk.layout.identity() };
+    let other = random.pick(&[[0, 0], [0, 3], [3, 0], [0, 1], [1, 0], [0, 2], [1, 3], [0, 12], [0, 255]]);
     let identity = if other == own { [own[0], own[1] ^ 64] } else { other };
-    image[SLOT_BYTES * random.below(SLOTS) + 22..][..2].copy_from_slice(&identity);
+    if disk.layout.kind == Kind::S3000 {
+        image[TYPE_AT] = random.pick(b"\0\x01\xfeSs\xd3");
+        image[22..][..2].copy_from_slice(&own); // no kind has an odd one beside it
+        image[SLOT_BYTES * random.within(1, SLOTS - 1) + 22..][..2].copy_from_slice(&identity);
+    } else {
+        image[SLOT_BYTES * random.below(SLOTS) + 22..][..2].copy_from_slice(&identity);
+    }
     (2, 0)
 }
 
-fn spoil_system(image: &mut [u8], disk: &Disk, random: &mut Random) -> Option<(u32, usize)> {
-    if disk.layout.kind == Kind::S900 {
+/// 255 in slot 0 says that another directory counts: one that no disk of low density has. Of high density more system blocks
+/// are due then than a valid disk of another kind has.
+fn spoil_kind(image: &mut [u8], disk: &Disk) -> Option<(u32, usize)> {
+    if disk.layout.kind == Kind::S3000 {
         return None;
     }
-    let block = random.below(disk.layout.first());
+    image[TYPE_AT] = IGNORED;
+    let other = |&block: &usize| number(&image[MAP_AT + 2 * block..][..2]) != SYSTEM;
+    match disk.layout.density {
+        Density::Low => Some((2, 0)),
+        Density::High => Some((3, (0..17).find(other)?)),
+    }
+}
+
+fn spoil_system(image: &mut [u8], disk: &Disk, random: &mut Random) -> Option<(u32, usize)> {
+    if !disk.layout.marks_system() {
+        return None;
+    }
+    let last = disk.layout.first() - 1;
+    let block = if random.one_in(3) { last } else { random.below(last) };
     set_map(image, block, random.pick(&[0, 1, 5, 16383, 16385, 64, SLIP, 32768, 49152]));
     Some((3, block))
 }
 
 /// Any used slot.
 fn used(disk: &Disk, random: &mut Random) -> Option<usize> {
-    let used: Vec<usize> = (0..SLOTS).filter(|&slot| disk.files[slot].is_some()).collect();
+    let used: Vec<usize> = (0..disk.files.len()).filter(|&slot| disk.files[slot].is_some()).collect();
     if used.is_empty() { None } else { Some(random.pick(&used)) }
 }
 
 fn spoil_form(image: &mut [u8], disk: &Disk, fault: Fault, random: &mut Random) -> Option<(u32, usize)> {
     let slot = used(disk, random)?;
     let (kind, letters) = (disk.layout.kind, name_length(disk.layout.kind));
-    let bytes = &mut image[SLOT_BYTES * slot..][..SLOT_BYTES];
+    let bytes = &mut image[disk.layout.slot_at(slot)..][..SLOT_BYTES];
     match fault {
-        Fault::Type if kind == Kind::S900 => bytes[16] = random.pick(b"\x01@[as\x7f\xff"),
-        Fault::Type => bytes[16] = random.pick(b"\x01`{AS\x7f\xff"),
+        Fault::Type => bytes[TYPE_AT] = bad_type(kind, slot, random),
         Fault::Name if kind == Kind::S900 => {
             bytes[random.below(letters)] = random.pick(&[0, 31, 127, 128, 255])
         }
@@ -125,10 +157,29 @@ fn spoil_form(image: &mut [u8], disk: &Disk, fault: Fault, random: &mut Random) 
     Some((4, slot))
 }
 
+/// A type that is none of the kind's. In slot 0 of an S900 or S1000 disk 255 would be no type, but another kind.
+fn bad_type(kind: Kind, slot: usize, random: &mut Random) -> u8 {
+    let bad: &[u8] = match kind {
+        Kind::S900 => b"\x01@[as\x7f\xd3\xff",
+        Kind::S1000 => b"\x01`{AS\x7f\xd3\xff",
+        Kind::S3000 => b"\x01Ss\x80\xc0\xdb\xf3\xff",
+    };
+    let other = if slot == 0 && kind != Kind::S3000 { &bad[..bad.len() - 1] } else { bad };
+    random.pick(other)
+}
+
+/// A used slot of an S3000 disk with another identity than 0,12.
+fn spoil_own_identity(image: &mut [u8], disk: &Disk, random: &mut Random) -> Option<(u32, usize)> {
+    let slot = used(disk, random).filter(|_| disk.layout.kind == Kind::S3000)?;
+    let other = random.pick(&[[0, 0], [0, 3], [0, 11], [0, 13], [1, 12], [12, 0], [12, 12], [255, 255]]);
+    image[disk.layout.slot_at(slot) + 22..][..2].copy_from_slice(&other);
+    Some((4, slot))
+}
+
 fn spoil_names(image: &mut [u8], disk: &Disk, random: &mut Random) -> Option<(u32, usize)> {
     let (one, other) = (used(disk, random)?, used(disk, random)?);
-    let area: Vec<u8> = image[SLOT_BYTES * one..][..16].to_vec();
-    image[SLOT_BYTES * other..][..16].copy_from_slice(&area);
+    let at = disk.layout.slot_at(one);
+    image.copy_within(at..at + 16, disk.layout.slot_at(other));
     if one == other { None } else { Some((5, one.max(other))) }
 }
 
@@ -152,7 +203,7 @@ fn spoil_chain(image: &mut [u8], disk: &Disk, fault: Fault, random: &mut Random)
     let number = match fault {
         Fault::Start => {
             let start = if random.one_in(8) { layout.end_mark() } else { random.pick(&off) };
-            store(&mut image[SLOT_BYTES * slot + 20..][..2], start);
+            store(&mut image[layout.slot_at(slot) + 20..][..2], start);
             6
         }
         Fault::Link => {
@@ -180,7 +231,7 @@ const SLIP: usize = 19152;
 fn other_mark(layout: Layout) -> usize {
     match layout.kind {
         Kind::S900 => 49152,
-        Kind::S1000 => 32768,
+        Kind::S1000 | Kind::S3000 => 32768,
     }
 }
 
@@ -189,8 +240,9 @@ fn spoil_shared(image: &mut [u8], disk: &Disk, random: &mut Random) -> Option<(u
     let (one, other) = (used(disk, random)?, used(disk, random)?);
     let chain = &disk.file(one)?.chain;
     let from = random.below(chain.len());
-    store(&mut image[SLOT_BYTES * other + 17..][..3], BLOCK * (chain.len() - from));
-    store(&mut image[SLOT_BYTES * other + 20..][..2], chain[from]);
+    let at = disk.layout.slot_at(other);
+    store(&mut image[at + 17..][..3], BLOCK * (chain.len() - from));
+    store(&mut image[at + 20..][..2], chain[from]);
     if one == other { None } else { Some((8, one.max(other))) }
 }
 
@@ -206,21 +258,29 @@ fn spoil_stray(image: &mut [u8], disk: &Disk, random: &mut Random) -> Option<(u3
 
 fn spoil_lost(image: &mut [u8], disk: &Disk, random: &mut Random) -> Option<(u32, usize)> {
     let slot = used(disk, random)?;
-    image[SLOT_BYTES * slot + 16] = 0;
+    image[disk.layout.slot_at(slot) + TYPE_AT] = 0;
     Some((9, *disk.file(slot)?.chain.iter().min()?))
 }
 
-/// Damages some bytes of the directory and the map, often by little.
+/// Damages some bytes of the directory in use and the map, often by little; of an S3000 disk's first directory too. Now and then
+/// the byte that tells S3000 disks from others becomes another, or 255.
 pub fn damage(image: &mut [u8], layout: Layout, random: &mut Random) {
     let end = MAP_AT + 2 * layout.blocks();
     for _ in 0..random.pick(&[1, 1, 2, 3, 8, 30]) {
-        let at = if random.one_in(2) { random.below(MAP_AT) } else { random.within(MAP_AT, end - 1) };
+        let at = match random.below(12) {
+            0..=5 => random.within(MAP_AT, end - 1),
+            6 => random.below(MAP_AT),
+            _ => random.within(layout.slot_at(0), layout.slot_at(layout.slots()) - 1),
+        };
         image[at] = match random.below(4) {
             0 => random.byte(),
             1 => 0,
             2 => image[at].wrapping_add(1),
             _ => image[at] ^ (1 << random.below(8)),
         };
+    }
+    if random.one_in(25) {
+        image[TYPE_AT] = if random.one_in(2) { IGNORED } else { random.byte() };
     }
 }
 
@@ -229,10 +289,12 @@ pub fn damage(image: &mut [u8], layout: Layout, random: &mut Random) {
 pub fn wreck(image: &mut Vec<u8>, disk: &Disk, random: &mut Random) {
     let files = disk.files.iter().flatten().count();
     // Now and then none of form, or none of name, or those from sharing on alone: they are asked for later, and hidden else.
-    let faults = &FAULTS[random.pick(&[2, 2, 7, 8, 12])..];
+    let first = random.pick(&[Fault::System, Fault::System, Fault::NameTwice, Fault::Start, Fault::Shared]);
+    let faults = &FAULTS[FAULTS.iter().position(|&fault| fault == first).unwrap_or(0)..];
     for _ in 0..random.within(2, 2 + 2 * files) {
         match random.below(6) {
-            0 | 1 if faults.contains(&Fault::NameTwice) => copy_part(image, disk, 0, 22, random),
+            0 if faults.contains(&Fault::NameTwice) => copy_part(image, disk, 0, 22, random),
+            1 if faults.contains(&Fault::NameTwice) => copy_part(image, disk, 0, SLOT_BYTES, random),
             2 => copy_part(image, disk, 17, 5, random), // a chain
             _ => {
                 spoil(image, disk, random.pick(faults), random);
@@ -244,7 +306,7 @@ pub fn wreck(image: &mut Vec<u8>, disk: &Disk, random: &mut Random) {
 /// Copies bytes of a used slot to the same place of any slot.
 fn copy_part(image: &mut [u8], disk: &Disk, at: usize, bytes: usize, random: &mut Random) {
     if let Some(from) = used(disk, random) {
-        let to = random.below(SLOTS);
-        image.copy_within(SLOT_BYTES * from + at..SLOT_BYTES * from + at + bytes, SLOT_BYTES * to + at);
+        let (from, to) = (disk.layout.slot_at(from) + at, random.below(disk.layout.slots()));
+        image.copy_within(from..from + bytes, disk.layout.slot_at(to) + at);
     }
 }

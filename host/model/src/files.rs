@@ -22,7 +22,7 @@ pub fn sample_header(kind: Kind, words: usize, random: &mut Random) -> Vec<u8> {
             header[24..28].fill(0);
             header[26] = random.pick(b"OLA");
         }
-        Kind::S1000 => {
+        Kind::S1000 | Kind::S3000 => {
             marker(34, end);
             marker(30, random.pick(&[0, end, end / 2]));
             header[0] = 3;

@@ -2,7 +2,7 @@
 
 use crate::calls::{link, set_map, write_slot};
 use crate::disk::File;
-use crate::layout::{BLOCK, Kind, Layout, SLOT_BYTES, SLOTS, SYSTEM};
+use crate::layout::{BLOCK, IGNORED, Kind, Layout, SLOT_BYTES, SLOTS, SYSTEM, TYPE_AT};
 use crate::names::{area_of, name_length};
 use crate::random::Random;
 
@@ -18,47 +18,87 @@ pub struct Plan {
 impl Plan {
     /// Some files, some room.
     pub fn scattered(layout: Layout, random: &mut Random) -> Plan {
-        let files = random.below(40);
+        let files = random.below(layout.slots() * 5 / 8);
         Plan { files, free: random.within(0, layout.data_blocks() - files) }
     }
 
     /// Next to no room.
-    pub fn near_full(random: &mut Random) -> Plan {
-        Plan { files: random.within(1, 62), free: random.below(6) }
+    pub fn near_full(layout: Layout, random: &mut Random) -> Plan {
+        Plan { files: random.within(1, layout.slots() - 2), free: random.below(6) }
     }
 
     /// No slot left, or one or two.
-    pub fn full_directory(random: &mut Random) -> Plan {
-        Plan { files: SLOTS - random.pick(&[0, 0, 1, 2]), free: random.within(20, 600) }
+    pub fn full_directory(layout: Layout, random: &mut Random) -> Plan {
+        Plan { files: layout.slots() - random.pick(&[0, 0, 1, 2]), free: random.within(20, 600) }
+    }
+
+    /// Any of the three.
+    pub fn any(layout: Layout, random: &mut Random) -> Plan {
+        match random.below(3) {
+            0 => Plan::scattered(layout, random),
+            1 => Plan::near_full(layout, random),
+            _ => Plan::full_directory(layout, random),
+        }
     }
 }
 
-/// A disk without files. All that no rule reads is noise: data, volume label, empty slots, an S900's system values.
+/// A disk without files. All that no rule reads is noise: data, volume label, empty slots, an S900's system values, an S3000's
+/// first directory and the identities in its second.
 pub fn blank(layout: Layout, random: &mut Random) -> Vec<u8> {
     let mut image = random.bytes(layout.image_bytes());
-    for slot in 0..SLOTS {
+    for slot in 0..layout.slots() {
+        let at = layout.slot_at(slot);
         if random.one_in(2) {
-            image[SLOT_BYTES * slot..][..22].fill(0);
+            image[at..][..22].fill(0);
         }
-        image[SLOT_BYTES * slot + 16] = 0;
-        image[SLOT_BYTES * slot + 22..][..2].copy_from_slice(&layout.identity());
+        image[at + TYPE_AT] = 0;
+        let identity = if layout.kind == Kind::S3000 { unread(random) } else { layout.identity() };
+        image[at + 22..][..2].copy_from_slice(&identity);
     }
     for block in 0..layout.blocks() {
         if layout.is_link(block) {
             set_map(&mut image, block, 0);
-        } else if layout.kind == Kind::S1000 {
+        } else if layout.marks_system() {
             set_map(&mut image, block, SYSTEM);
         }
+    }
+    if layout.kind == Kind::S3000 {
+        ignore(&mut image, random);
     }
     image
 }
 
-/// A valid disk after a plan: files in any slots, chains over any blocks.
+/// An identity where none is read: that of a kind, or any.
+fn unread(random: &mut Random) -> [u8; 2] {
+    match random.below(6) {
+        0 => [random.byte(), random.byte()],
+        1 => [0, 3],
+        2 => [0, 11],
+        3 => [0, 0],
+        _ => [0, 12],
+    }
+}
+
+/// Makes the first directory one that is ignored. Half of them would else tell of another kind, some of those without files.
+fn ignore(image: &mut [u8], random: &mut Random) {
+    if random.one_in(2) {
+        let (identity, empty) = (random.pick(&[[0, 0], [0, 3]]), random.one_in(2));
+        for slot in image[..SLOTS * SLOT_BYTES].chunks_mut(SLOT_BYTES) {
+            slot[22..].copy_from_slice(&identity);
+            slot[TYPE_AT] = if empty { 0 } else { slot[TYPE_AT] };
+        }
+    }
+    image[TYPE_AT] = IGNORED;
+}
+
+/// A valid disk after a plan: files in any slots, or in the lowest, so that the last ones are empty; chains over any blocks.
 pub fn disk(layout: Layout, plan: Plan, random: &mut Random) -> Vec<u8> {
     let mut image = blank(layout, random);
-    let mut slots: Vec<usize> = (0..SLOTS).collect();
+    let mut slots: Vec<usize> = (0..layout.slots()).collect();
     let mut blocks: Vec<usize> = (layout.first()..layout.blocks()).collect();
-    random.shuffle(&mut slots);
+    if !random.one_in(4) {
+        random.shuffle(&mut slots);
+    }
     if !random.one_in(4) {
         random.shuffle(&mut blocks);
     }
@@ -88,7 +128,7 @@ pub fn disk(layout: Layout, plan: Plan, random: &mut Random) -> Vec<u8> {
 /// Writes a file's slot and chain; its content is what its blocks hold.
 pub fn add(image: &mut [u8], layout: Layout, slot: usize, file: &File) {
     let area = area_of(layout.kind, &file.name).expect("a maker's name is legal");
-    write_slot(image, slot, &area, file.file_type, file.length, file.chain[0]);
+    write_slot(image, layout, slot, &area, (file.file_type, file.length, file.chain[0]));
     link(image, layout, &file.chain);
 }
 
@@ -108,7 +148,7 @@ fn parts(total: usize, count: usize, random: &mut Random) -> Vec<usize> {
 pub fn legal_name(kind: Kind, random: &mut Random) -> Vec<u8> {
     let all: &[u8] = match kind {
         Kind::S900 => b" ~!09AZaz#+-.@",
-        Kind::S1000 => b"0129 ABXYZ#+-.",
+        Kind::S1000 | Kind::S3000 => b"0129 ABXYZ#+-.",
     };
     let mut name = vec![b' '; name_length(kind)];
     if random.one_in(2) {
@@ -134,6 +174,10 @@ pub fn respelt(name: &[u8], random: &mut Random) -> Vec<u8> {
 
 /// A legal type.
 pub fn legal_type(kind: Kind, random: &mut Random) -> u8 {
-    let first = if kind == Kind::S900 { b'A' } else { b'a' };
+    let first = match kind {
+        Kind::S900 => b'A',
+        Kind::S1000 => b'a',
+        Kind::S3000 => b'A' + 128,
+    };
     first + random.below(26) as u8
 }

@@ -1,5 +1,5 @@
-//! Names and types (document 01, "The disk"; document 02, request two). Callers give ASCII; S1000 disks hold AKAII, which
-//! has no small letters.
+//! Names and types (document 01, "The disk"; document 02, requests two and five). Callers give ASCII; S1000 and S3000 disks hold
+//! AKAII, which has no small letters.
 
 use crate::layout::Kind;
 
@@ -24,7 +24,16 @@ pub fn character_of(code: u8) -> Option<u8> {
 pub fn name_length(kind: Kind) -> usize {
     match kind {
         Kind::S900 => 10,
-        Kind::S1000 => 12,
+        Kind::S1000 | Kind::S3000 => 12,
+    }
+}
+
+/// The bytes of a slot's name area after the name.
+fn padding(kind: Kind) -> &'static [u8] {
+    match kind {
+        Kind::S900 => &[0; 6],
+        Kind::S1000 => &[32; 4],
+        Kind::S3000 => &[0, 0, 0, 2],
     }
 }
 
@@ -38,14 +47,12 @@ pub fn area_of(kind: Kind, name: &[u8]) -> Option<[u8; 16]> {
     if name.len() != name_length(kind) {
         return None;
     }
-    let mut area = match kind {
-        Kind::S900 => [0; 16],
-        Kind::S1000 => [32; 16],
-    };
+    let mut area = [0; 16];
+    area[name.len()..].copy_from_slice(padding(kind));
     for (at, &character) in name.iter().enumerate() {
         area[at] = match kind {
             Kind::S900 => Some(character).filter(|&byte| is_printable(byte)),
-            Kind::S1000 => code_of(character),
+            Kind::S1000 | Kind::S3000 => code_of(character),
         }?;
     }
     Some(area)
@@ -54,31 +61,28 @@ pub fn area_of(kind: Kind, name: &[u8]) -> Option<[u8; 16]> {
 /// The name in ASCII that a slot's name area holds, if the area is well formed.
 pub fn name_of(kind: Kind, area: &[u8]) -> Option<Vec<u8>> {
     let (name, rest) = area.split_at(name_length(kind));
-    let filler = match kind {
-        Kind::S900 => 0,
-        Kind::S1000 => 32,
-    };
-    if rest.iter().any(|&byte| byte != filler) {
+    if rest != padding(kind) {
         return None;
     }
     let character = |&byte: &u8| match kind {
         Kind::S900 => Some(byte).filter(|&byte| is_printable(byte)),
-        Kind::S1000 => character_of(byte),
+        Kind::S1000 | Kind::S3000 => character_of(byte),
     };
     name.iter().map(character).collect()
 }
 
-/// A legal name as a disk keeps it: in capitals on S1000 disks, as it is on S900 disks. Two spellings that are kept alike
-/// are one name.
+/// A legal name as a disk keeps it: in capitals on S1000 and S3000 disks, as it is on S900 disks. Two spellings that are kept
+/// alike are one name.
 pub fn kept(kind: Kind, name: &[u8]) -> Option<Vec<u8>> {
     name_of(kind, &area_of(kind, name)?)
 }
 
-/// Whether a byte is a legal type: capitals on S900 disks, small letters on S1000 disks.
+/// Whether a byte is a legal type: capitals on S900 disks, small letters on S1000 disks, capitals plus 128 on S3000 disks.
 pub fn is_type(kind: Kind, byte: u8) -> bool {
     match kind {
         Kind::S900 => byte.is_ascii_uppercase(),
         Kind::S1000 => byte.is_ascii_lowercase(),
+        Kind::S3000 => (193..=218).contains(&byte),
     }
 }
 
@@ -102,18 +106,46 @@ mod tests {
     }
 
     #[test]
-    fn s1000_names_are_kept_in_capitals_and_s900_names_as_they_are() {
-        let area = *b"\x0c\x0b\x1d\x1d\x0a\x0d\x02\x0a\x0a\x0a\x0a\x0a    ";
-        for name in [b"Bass c2     ", b"BASS C2     ", b"bAsS C2     "] {
-            assert_eq!(area_of(Kind::S1000, name), Some(area));
-            assert_eq!(kept(Kind::S1000, name), Some(b"BASS C2     ".to_vec()));
+    fn akaii_names_are_kept_in_capitals_and_s900_names_as_they_are() {
+        let codes = b"\x0c\x0b\x1d\x1d\x0a\x0d\x02\x0a\x0a\x0a\x0a\x0a";
+        for (kind, rest) in [(Kind::S1000, [32, 32, 32, 32]), (Kind::S3000, [0, 0, 0, 2])] {
+            let area = [&codes[..], &rest].concat();
+            for name in [b"Bass c2     ", b"BASS C2     ", b"bAsS C2     "] {
+                assert_eq!(area_of(kind, name).map(Vec::from), Some(area.clone()));
+                assert_eq!(kept(kind, name), Some(b"BASS C2     ".to_vec()));
+            }
         }
         assert_eq!(kept(Kind::S900, b"Bass c2   "), Some(b"Bass c2   ".to_vec()));
         for around in [b'@', b'[', b'`', b'{'] {
             let mut name = *b"BASS C2     ";
             name[1] = around;
-            assert_eq!(kept(Kind::S1000, &name), None);
+            assert_eq!([kept(Kind::S1000, &name), kept(Kind::S3000, &name)], [None, None]);
             assert_eq!(kept(Kind::S900, &name[..10]), Some(name[..10].to_vec()));
+        }
+    }
+
+    /// An area is its own kind's alone, by the bytes after the name.
+    #[test]
+    fn paddings_are_the_kinds_own() {
+        let areas = [(Kind::S1000, [32; 4]), (Kind::S3000, [0, 0, 0, 2])];
+        for ((kind, rest), other) in areas.into_iter().zip([Kind::S3000, Kind::S1000]) {
+            let mut area = [&[10; 12][..], &rest].concat();
+            assert_eq!(name_of(kind, &area), Some(vec![b' '; 12]));
+            assert_eq!(name_of(other, &area), None);
+            for at in 12..16 {
+                area[at] ^= 1;
+                assert_eq!(name_of(kind, &area), None);
+                area[at] ^= 1;
+            }
+        }
+    }
+
+    #[test]
+    fn types_are_26_of_each_kind() {
+        for (kind, first) in [(Kind::S900, b'A'), (Kind::S1000, b'a'), (Kind::S3000, b'A' + 128)] {
+            for byte in 0..=255 {
+                assert_eq!(is_type(kind, byte), (first..first + 26).contains(&byte), "{kind:?} {byte}");
+            }
         }
     }
 }

@@ -2,7 +2,7 @@
 
 use crate::calls::{Checked, Listed, Paged};
 use crate::disk::{Disk, content};
-use crate::layout::{Layout, SLOTS, blocks_for};
+use crate::layout::{Layout, blocks_for};
 use crate::names::{is_type, kept};
 use crate::{Answer, refuse};
 
@@ -42,7 +42,7 @@ impl Record {
     }
 
     fn slot_of(&self, name: &[u8]) -> Option<usize> {
-        (0..SLOTS).find(|&slot| self.entry(slot).is_ok_and(|entry| entry.name == name))
+        self.entries.iter().position(|entry| entry.as_ref().is_some_and(|entry| entry.name == name))
     }
 
     /// The data blocks less those that the contents need.
@@ -87,7 +87,7 @@ impl Record {
         if let Some(slot) = self.slot_of(&name) {
             return refuse(12, slot);
         }
-        let Some(slot) = (0..SLOTS).find(|&slot| self.entry(slot).is_err()) else { return refuse(14, 0) };
+        let Some(slot) = self.entries.iter().position(Option::is_none) else { return refuse(14, 0) };
         if blocks_for(content.len()) > self.free() {
             return refuse(15, 0);
         }

@@ -2,7 +2,7 @@
 
 use crate::calls::{clear_slot, set_map};
 use crate::disk::{Slot, layout_of, map_of, slot_at, walk};
-use crate::layout::{Kind, Layout, SLOTS, SYSTEM};
+use crate::layout::{Layout, SYSTEM};
 use crate::{Answer, refuse};
 
 /// What becomes of a slot.
@@ -23,17 +23,17 @@ struct Kept {
 }
 
 /// Drops the slots that can't stay, frees the blocks on no kept chain and marks the system blocks; gives how many map values are
-/// others than before. The report's first 64 bytes become 0 for an empty slot, 1 for a kept one, else the number that it is
-/// dropped for: 1, 2, 21.
+/// others than before. The report's first bytes, one for each slot, become 0 for an empty slot, 1 for a kept one, else the
+/// number that it is dropped for: 1, 2, 21.
 pub fn salvage(image: &mut [u8], report: &mut [u8]) -> Answer<usize> {
     let layout = layout_of(image)?;
-    if report.len() < SLOTS {
+    if report.len() < layout.slots() {
         return refuse(21, 0);
     }
     let given = map_of(image, layout);
     let mut kept = Kept { names: Vec::new(), on_chain: vec![false; layout.blocks()] };
-    for (slot, said) in report[..SLOTS].iter_mut().enumerate() {
-        *said = match judge(layout, &given, &slot_at(image, slot), &kept) {
+    for (slot, said) in report[..layout.slots()].iter_mut().enumerate() {
+        *said = match judge(layout, &given, &slot_at(image, layout, slot), &kept) {
             Verdict::Empty => 0,
             Verdict::Kept(name, chain) => {
                 kept.names.push(name);
@@ -41,7 +41,7 @@ pub fn salvage(image: &mut [u8], report: &mut [u8]) -> Answer<usize> {
                 1
             }
             Verdict::Dropped(number) => {
-                clear_slot(image, slot);
+                clear_slot(image, layout, slot);
                 number as u8
             }
         };
@@ -56,7 +56,7 @@ fn judge(layout: Layout, given: &[usize], slot: &Slot, kept: &Kept) -> Verdict {
     if !slot.is_used() {
         return Verdict::Empty;
     }
-    let Some(name) = slot.well_formed(layout.kind) else { return Verdict::Dropped(4) };
+    let Some(name) = slot.well_formed(layout) else { return Verdict::Dropped(4) };
     if kept.names.contains(&name) {
         return Verdict::Dropped(5);
     }
@@ -72,8 +72,5 @@ fn mend(layout: Layout, given: &[usize], kept: &Kept, block: usize) -> usize {
     if layout.is_link(block) {
         return if kept.on_chain[block] { given[block] } else { 0 };
     }
-    match layout.kind {
-        Kind::S900 => given[block],
-        Kind::S1000 => SYSTEM,
-    }
+    if layout.marks_system() { SYSTEM } else { given[block] }
 }

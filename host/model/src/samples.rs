@@ -1,4 +1,5 @@
-//! S900 and S1000 sample files (document 01, "The files").
+//! S900 and S1000 sample files (document 01, "The files"). No paper asks for S3000 ones, and nothing here is called with that
+//! kind; it would be taken for an S1000.
 
 use crate::layout::Kind;
 use crate::names::{character_of, is_printable};
@@ -8,7 +9,7 @@ use crate::{Answer, number, refuse};
 pub fn header_bytes(kind: Kind) -> usize {
     match kind {
         Kind::S900 => 60,
-        Kind::S1000 => 150,
+        Kind::S1000 | Kind::S3000 => 150,
     }
 }
 
@@ -16,7 +17,7 @@ pub fn header_bytes(kind: Kind) -> usize {
 pub fn count_at(kind: Kind) -> usize {
     match kind {
         Kind::S900 => 16,
-        Kind::S1000 => 26,
+        Kind::S1000 | Kind::S3000 => 26,
     }
 }
 
@@ -24,7 +25,7 @@ pub fn count_at(kind: Kind) -> usize {
 pub fn file_bytes(kind: Kind, words: usize) -> usize {
     match kind {
         Kind::S900 => 60 + words + words / 2,
-        Kind::S1000 => 150 + 2 * words,
+        Kind::S1000 | Kind::S3000 => 150 + 2 * words,
     }
 }
 
@@ -45,7 +46,7 @@ pub fn unpack(kind: Kind, file: &[u8], words: &mut [i16]) -> Answer<usize> {
     for (at, word) in words[..count].iter_mut().enumerate() {
         *word = match kind {
             Kind::S900 => word_900(data, count, at),
-            Kind::S1000 => i16::from_le_bytes([data[2 * at], data[2 * at + 1]]),
+            Kind::S1000 | Kind::S3000 => i16::from_le_bytes([data[2 * at], data[2 * at + 1]]),
         };
     }
     Ok(count)
@@ -68,7 +69,7 @@ pub fn pack(kind: Kind, header: &[u8], words: &[i16], output: &mut [u8]) -> Answ
     let mut file = header.to_vec();
     match kind {
         Kind::S900 => file.extend(data_900(words)),
-        Kind::S1000 => file.extend(words.iter().flat_map(|word| word.to_le_bytes())),
+        Kind::S1000 | Kind::S3000 => file.extend(words.iter().flat_map(|word| word.to_le_bytes())),
     }
     if output.len() < file.len() {
         return refuse(21, 0);
@@ -117,7 +118,7 @@ type Ruled = (usize, bool);
 fn judge_header(kind: Kind, header: &[u8]) -> Answer<()> {
     let rules = match kind {
         Kind::S900 => rules_900(header),
-        Kind::S1000 => rules_1000(header),
+        Kind::S1000 | Kind::S3000 => rules_1000(header),
     };
     match rules.iter().filter(|(_, met)| !met).map(|&(at, _)| at).min() {
         Some(at) => refuse(18, at),

@@ -2,7 +2,7 @@
 
 use crate::calls::{put, set_map};
 use crate::files::default_program;
-use crate::layout::{Density, Kind, Layout, SLOT_BYTES, SLOTS, SYSTEM};
+use crate::layout::{Density, Kind, Layout, SYSTEM};
 use crate::names::code_of;
 use crate::program::{KEYGROUPS_AT, PART};
 use crate::random::Random;
@@ -35,11 +35,11 @@ pub fn disk() -> Vec<u8> {
     image
 }
 
-/// A disk without files, and zeros where no rule stands.
+/// An S1000 disk without files, and zeros where no rule stands.
 fn blank(layout: Layout) -> Vec<u8> {
     let mut image = vec![0; layout.image_bytes()];
-    for slot in 0..SLOTS {
-        image[SLOT_BYTES * slot + 22..][..2].copy_from_slice(&layout.identity());
+    for slot in 0..layout.slots() {
+        image[layout.slot_at(slot) + 22..][..2].copy_from_slice(&layout.identity());
     }
     for block in 0..layout.first() {
         set_map(&mut image, block, SYSTEM);

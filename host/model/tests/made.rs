@@ -3,19 +3,20 @@
 
 use model::calls;
 use model::disk::{content, read};
-use model::faults::{FAULTS, spoil};
+use model::faults::{FAULTS, Fault, spoil};
 use model::files;
-use model::layout::{Kind, LAYOUTS};
+use model::layout::{Kind, LAYOUTS, Layout};
 use model::maker::{self, Plan};
 use model::random::Random;
 use model::record::Record;
 use model::{Refusal, program, samples};
 
 fn plans(random: &mut Random) -> Vec<(usize, Plan)> {
-    let scattered = |at: usize, random: &mut Random| (at, Plan::scattered(LAYOUTS[at], random));
-    let mut plans: Vec<(usize, Plan)> = (0..4).map(|at| scattered(at, random)).collect();
-    plans.extend((0..4).map(|at| (at, Plan::near_full(random))));
-    plans.extend((0..4).map(|at| (at, Plan::full_directory(random))));
+    let layouts = LAYOUTS.into_iter().enumerate();
+    let mut plans = Vec::new();
+    for plan in [Plan::scattered, Plan::near_full, Plan::full_directory] {
+        plans.extend(layouts.clone().map(|(at, layout)| (at, plan(layout, random))));
+    }
     plans
 }
 
@@ -29,10 +30,30 @@ fn disks_are_accepted() {
     }
 }
 
+/// S3000 disks have files in slots past 63, and whole directories of them; what isn't read is noise, also a directory that would
+/// tell of another kind, and wrong identities in empty slots.
+#[test]
+fn s3000_disks_are_of_every_sort() {
+    let (mut random, layout) = (Random::new(7), LAYOUTS[4]);
+    let (mut high, mut full, mut s900, mut s1000, mut odd) = (0, 0, 0, 0, 0);
+    for _ in 0..100 {
+        let image = maker::disk(layout, Plan::any(layout, &mut random), &mut random);
+        let disk = read(&image).expect("accepted");
+        high += usize::from(disk.files[64..].iter().any(Option::is_some));
+        full += usize::from(disk.files.iter().all(Option::is_some));
+        let all = |own: [u8; 2]| image[..1536].chunks(24).all(|slot| slot[22..] == own);
+        s900 += usize::from(all([0, 0]));
+        s1000 += usize::from(all([0, 3]));
+        odd += image[5120..17_408].chunks(24).filter(|slot| slot[16] == 0 && slot[22..] != [0, 12]).count();
+    }
+    assert!([high, full, s900, s1000].iter().all(|&times| times >= 5), "{high} {full} {s900} {s1000}");
+    assert!(odd > 1000, "{odd}");
+}
+
 #[test]
 fn faults_are_refused() {
     let mut random = Random::new(2);
-    let mut met = vec![0; FAULTS.len()];
+    let mut met = vec![[0; 5]; FAULTS.len()];
     for (at, plan) in (0..20).flat_map(|_| plans(&mut random)).collect::<Vec<_>>() {
         let good = maker::disk(LAYOUTS[at], plan, &mut random);
         let disk = read(&good).expect("accepted");
@@ -40,16 +61,27 @@ fn faults_are_refused() {
             let mut image = good.clone();
             if let Some(refusal) = spoil(&mut image, &disk, fault, &mut random) {
                 assert_eq!(calls::check(&image), Err(refusal), "{fault:?}");
-                met[which] += 1;
+                met[which][at] += 1;
             }
         }
     }
-    assert!(met.iter().all(|&times| times > 20), "{met:?}");
+    for (fault, times) in FAULTS.iter().zip(met) {
+        for (layout, times) in LAYOUTS.iter().zip(times) {
+            let can = match fault {
+                Fault::System => layout.kind != Kind::S900,
+                Fault::Ignored => layout.kind != Kind::S3000,
+                Fault::SlotIdentity => layout.kind == Kind::S3000,
+                _ => true,
+            };
+            assert!(if can { times > 20 } else { times == 0 }, "{times} times {fault:?} on {layout:?}");
+        }
+    }
 }
 
 /// One call on bytes and record alike; the page's output too.
-fn step(image: &mut [u8], record: &mut Record, random: &mut Random, kind: Kind) {
-    let known = record.list(random.below(64)).map(|listed| listed.name);
+fn step(image: &mut [u8], record: &mut Record, random: &mut Random, layout: Layout) {
+    let kind = layout.kind;
+    let known = record.list(random.below(layout.slots())).map(|listed| listed.name);
     let mut name = known.unwrap_or_else(|_| maker::legal_name(kind, random));
     if random.one_in(3) {
         name = maker::respelt(&name, random);
@@ -57,7 +89,7 @@ fn step(image: &mut [u8], record: &mut Record, random: &mut Random, kind: Kind) 
     if random.one_in(20) {
         name[0] = random.byte();
     }
-    let (slot, offset) = (random.below(66), random.below(5000));
+    let (slot, offset) = (random.below(layout.slots() + 2), random.below(5000));
     match random.below(5) {
         0 => assert_eq!(calls::find(image, &name), record.find(&name)),
         1 => assert_eq!(calls::list(image, slot), record.list(slot)),
@@ -86,7 +118,7 @@ fn calls_behave_as_the_record() {
         let disk = read(&image).expect("accepted");
         let mut record = Record::of(&image, &disk);
         for turn in 0..300 {
-            step(&mut image, &mut record, &mut random, LAYOUTS[at].kind);
+            step(&mut image, &mut record, &mut random, LAYOUTS[at]);
             if turn % 50 == 0 {
                 let disk = read(&image).expect("accepted");
                 assert_eq!(record, Record::of(&image, &disk));
@@ -102,7 +134,7 @@ fn blocks_hold_the_content() {
     for (at, plan) in plans(&mut random) {
         let image = maker::disk(LAYOUTS[at], plan, &mut random);
         let disk = read(&image).expect("accepted");
-        for slot in 0..66 {
+        for slot in 0..disk.files.len() + 2 {
             let mut output = vec![9; 1600];
             let Some(file) = disk.file(slot) else {
                 assert_eq!(calls::blocks(&image, slot, &mut output), Err(Refusal { number: 10, place: 0 }));

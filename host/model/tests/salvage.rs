@@ -2,10 +2,10 @@
 
 mod common;
 
-use common::{empty, map, slot};
+use common::{at, empty, map, slot};
 use model::calls::{check, page};
 use model::disk::{content, read};
-use model::faults::{FAULTS, spoil};
+use model::faults::{OF_KNOWN_KIND, spoil};
 use model::layout::{Kind, LAYOUTS, Layout};
 use model::maker::{self, Plan};
 use model::random::Random;
@@ -14,20 +14,21 @@ use model::{Answer, Refusal};
 
 const S900_LOW: Layout = LAYOUTS[0];
 const S1000_HIGH: Layout = LAYOUTS[3];
+const S3000: Layout = LAYOUTS[4];
 
 fn end_mark(layout: Layout) -> u16 {
     if layout.kind == Kind::S900 { 32768 } else { 49152 }
 }
 
-/// Three files on any layout: slot 0 in blocks 10 and 11, slot 2 in block 20, slot 5 in 30, 32 and 31.
+/// Three files on any layout: slot 0 in blocks 24 and 25, slot 2 in block 20, slot 5 in 30, 32 and 31.
 fn three(layout: Layout) -> Vec<u8> {
     let mut image = empty(layout);
     image[1024 * layout.first()..].fill(0xE5);
-    slot(&mut image, 0, 2048, 10);
+    slot(&mut image, 0, 2048, 24);
     slot(&mut image, 2, 1, 20);
     slot(&mut image, 5, 2049, 30);
     let end = end_mark(layout);
-    for (block, value) in [(10, 11), (11, end), (20, end), (30, 32), (32, 31), (31, end)] {
+    for (block, value) in [(24, 25), (25, end), (20, end), (30, 32), (32, 31), (31, end)] {
         map(&mut image, block, value);
     }
     image
@@ -40,31 +41,38 @@ fn damaged(layout: Layout, damage: impl Fn(&mut [u8])) -> Vec<u8> {
     image
 }
 
+/// Sets a byte of a slot.
+fn byte(image: &mut [u8], slot: usize, offset: usize, value: u8) {
+    let from = at(image, slot);
+    image[from + offset] = value;
+}
+
 /// A slot takes another's name.
 fn name_of(image: &mut [u8], from: usize, to: usize) {
-    image.copy_within(24 * from..24 * from + 16, 24 * to);
+    image.copy_within(at(image, from)..at(image, from) + 16, at(image, to));
 }
 
 /// A slot takes another's length and start.
 fn chain_of(image: &mut [u8], from: usize, to: usize) {
-    image.copy_within(24 * from + 17..24 * from + 22, 24 * to + 17);
+    image.copy_within(at(image, from) + 17..at(image, from) + 22, at(image, to) + 17);
 }
 
 /// Salvages an image. It has to be what is due, with this report, empty slots left out, and so many map values changed. It is accepted
 /// then, a second run changes nothing, and all else of the report is kept.
 fn comes_to(mut image: Vec<u8>, due: &[u8], told: &[(usize, u8)], count: usize) {
-    let (mut said, mut report) = ([0; 64], [9; 70]);
+    let slots = if at(&image, 0) == 0 { 64 } else { 512 };
+    let (mut said, mut report) = (vec![0; slots], vec![9; slots + 6]);
     told.iter().for_each(|&(slot, number)| said[slot] = number);
     assert_eq!(salvage(&mut image, &mut report), Ok(count));
-    assert_eq!((&report[..64], &report[64..]), (&said[..], &[9; 6][..]));
+    assert_eq!((&report[..slots], &report[slots..]), (&said[..], &[9; 6][..]));
     assert!(image == due, "image at {:?}", image.iter().zip(due).position(|(one, other)| one != other));
-    let kept = said.map(|number| u8::from(number == 1));
+    let kept: Vec<u8> = said.iter().map(|&number| u8::from(number == 1)).collect();
     assert_eq!(
         check(&image).map(|checked| checked.files),
         Ok(kept.iter().map(|&one| usize::from(one)).sum())
     );
     assert_eq!(salvage(&mut image, &mut report), Ok(0));
-    assert_eq!((&report[..64], &report[64..]), (&kept[..], &[9; 6][..]));
+    assert_eq!((&report[..slots], &report[slots..]), (&kept[..], &[9; 6][..]));
     assert!(image == due, "a second run");
 }
 
@@ -72,7 +80,7 @@ fn comes_to(mut image: Vec<u8>, due: &[u8], told: &[(usize, u8)], count: usize) 
 fn loses(image: Vec<u8>, told: &[(usize, u8)], freed: &[usize]) {
     let mut due = image.clone();
     for &(slot, _) in told.iter().filter(|told| told.1 > 1) {
-        due[24 * slot..][..22].fill(0);
+        due[at(&image, slot)..][..22].fill(0);
     }
     freed.iter().for_each(|&block| map(&mut due, block, 0));
     comes_to(image, &due, told, freed.len());
@@ -81,15 +89,42 @@ fn loses(image: Vec<u8>, told: &[(usize, u8)], freed: &[usize]) {
 #[test]
 fn malformed_slots_are_dropped() {
     for layout in LAYOUTS {
-        for (at, byte) in [(16, 1), (16, 255), (3, 200), (13, 1), (15, 7), (9, 127)] {
-            loses(damaged(layout, |image| image[24 * 2 + at] = byte), &[(0, 1), (2, 4), (5, 1)], &[20]);
+        for (offset, value) in [(16, 1), (16, 255), (3, 200), (13, 1), (15, 7), (9, 127)] {
+            let malformed = damaged(layout, |image| byte(image, 2, offset, value));
+            loses(malformed, &[(0, 1), (2, 4), (5, 1)], &[20]);
         }
-        let nothing = damaged(layout, |image| image[24 * 5 + 17..][..3].fill(0));
+        let nothing = damaged(layout, |image| slot(image, 5, 0, 30));
         loses(nothing, &[(0, 1), (2, 1), (5, 4)], &[30, 31, 32]);
     }
-    // the other kind's types
-    loses(damaged(S900_LOW, |image| image[16] = b's'), &[(0, 4), (2, 1), (5, 1)], &[10, 11]);
-    loses(damaged(S1000_HIGH, |image| image[16] = b'S'), &[(0, 4), (2, 1), (5, 1)], &[10, 11]);
+    // other kinds' types
+    for (layout, others) in [(S900_LOW, [b's', 211]), (S1000_HIGH, [b'S', 211]), (S3000, [b's', b'S'])] {
+        for other in others {
+            let of_another = damaged(layout, |image| byte(image, 0, 16, other));
+            loses(of_another, &[(0, 4), (2, 1), (5, 1)], &[24, 25]);
+        }
+    }
+}
+
+/// An S3000 disk's dropped slot keeps its identity, also a wrong one; those of empty slots aren't read.
+#[test]
+fn identities_are_kept() {
+    for (offset, value) in [(22, 1), (23, 3), (23, 11), (23, 0)] {
+        let other = damaged(S3000, |image| {
+            [1, 2, 511].into_iter().for_each(|number| byte(image, number, offset, value));
+        });
+        loses(other, &[(0, 1), (2, 4), (5, 1)], &[20]);
+    }
+}
+
+/// An S3000 disk's first directory isn't read, whatever it says, and stays; so does all that lies between the map and the second one.
+#[test]
+fn the_first_directory_is_kept() {
+    let mut random = Random::new(10);
+    let noise = damaged(S3000, |image| byte(image, 5, 16, 1));
+    let mut noise =
+        [random.bytes(1536), noise[1536..4736].to_vec(), random.bytes(384), noise[5120..].to_vec()];
+    noise[0][16] = 255;
+    loses(noise.concat(), &[(0, 1), (2, 1), (5, 4)], &[30, 31, 32]);
 }
 
 /// The lower slot keeps the name, whatever the types.
@@ -98,7 +133,8 @@ fn names_of_kept_slots_are_dropped() {
     for layout in LAYOUTS {
         let twice = damaged(layout, |image| {
             name_of(image, 0, 2);
-            image[24 * 2 + 16] += 1;
+            let next = image[at(image, 0) + 16] + 1;
+            byte(image, 2, 16, next);
         });
         loses(twice, &[(0, 1), (2, 5), (5, 1)], &[20]);
         loses(damaged(layout, |image| name_of(image, 5, 2)), &[(0, 1), (2, 1), (5, 5)], &[30, 31, 32]);
@@ -128,12 +164,12 @@ fn faulty_chains_are_dropped() {
         loses(damaged(layout, |image| map(image, 32, end)), &[(0, 1), (2, 1), (5, 7)], &[30, 31, 32]);
         loses(damaged(layout, |image| map(image, 31, 30)), &[(0, 1), (2, 1), (5, 7)], &[30, 31, 32]);
         loses(damaged(layout, |image| slot(image, 5, 2048, 30)), &[(0, 1), (2, 1), (5, 7)], &[30, 31, 32]);
-        loses(damaged(layout, |image| slot(image, 0, 2049, 10)), &[(0, 7), (2, 1), (5, 1)], &[10, 11]);
+        loses(damaged(layout, |image| slot(image, 0, 2049, 24)), &[(0, 7), (2, 1), (5, 1)], &[24, 25]);
         let ring = damaged(layout, |image| {
-            slot(image, 0, 16_777_215, 10);
-            map(image, 11, 10);
+            slot(image, 0, 16_777_215, 24);
+            map(image, 25, 24);
         });
-        loses(ring, &[(0, 7), (2, 1), (5, 1)], &[10, 11]);
+        loses(ring, &[(0, 7), (2, 1), (5, 1)], &[24, 25]);
     }
 }
 
@@ -143,7 +179,7 @@ fn chains_on_kept_blocks_are_dropped() {
     for layout in LAYOUTS {
         let told = [(0, 1), (2, 1), (5, 8)];
         loses(damaged(layout, |image| chain_of(image, 2, 5)), &told, &[30, 31, 32]);
-        loses(damaged(layout, |image| slot(image, 5, 1024, 11)), &told, &[30, 31, 32]);
+        loses(damaged(layout, |image| slot(image, 5, 1024, 25)), &told, &[30, 31, 32]);
         let ending = damaged(layout, |image| map(image, 32, 20));
         loses(ending, &told, &[30, 31, 32]);
         // the lower slot's start lies in the middle of the higher one's chain
@@ -152,7 +188,7 @@ fn chains_on_kept_blocks_are_dropped() {
     }
 }
 
-/// 9, and 3 on S1000 disks: no slot is at fault. System values of S900 disks are kept.
+/// 9, and 3 on S1000 and S3000 disks: no slot is at fault. System values of S900 disks are kept.
 #[test]
 fn strays_are_freed_and_system_blocks_marked() {
     let told = [(0, 1), (2, 1), (5, 1)];
@@ -161,12 +197,14 @@ fn strays_are_freed_and_system_blocks_marked() {
         let stray =
             damaged(layout, |image| strays.iter().for_each(|&(block, value)| map(image, block, value)));
         loses(stray, &told, &strays.map(|stray| stray.0));
-        let system = damaged(layout, |image| [1, 3].into_iter().for_each(|block| map(image, block, 16385)));
+        let last = layout.first() - 1;
+        let system =
+            damaged(layout, |image| [1, last].into_iter().for_each(|block| map(image, block, 16385)));
         match layout.kind {
             Kind::S900 => loses(system, &told, &[]),
-            Kind::S1000 => comes_to(system, &three(layout), &told, 2),
+            Kind::S1000 | Kind::S3000 => comes_to(system, &three(layout), &told, 2),
         }
-        let lost = damaged(layout, |image| image[24 * 5 + 16] = 0);
+        let lost = damaged(layout, |image| byte(image, 5, 16, 0));
         loses(lost, &[(0, 1), (2, 1)], &[30, 31, 32]); // the slot is empty, and keeps its bytes
     }
 }
@@ -177,7 +215,7 @@ fn two_reasons_at_once() {
     for layout in LAYOUTS {
         let malformed_name = damaged(layout, |image| {
             name_of(image, 0, 2);
-            image[24 * 2 + 16] = 1;
+            byte(image, 2, 16, 1);
         });
         loses(malformed_name, &[(0, 1), (2, 4), (5, 1)], &[20]);
         let name_astray = damaged(layout, |image| {
@@ -188,13 +226,13 @@ fn two_reasons_at_once() {
         let long_shared = damaged(layout, |image| slot(image, 5, 1025, 20));
         loses(long_shared, &[(0, 1), (2, 1), (5, 7)], &[30, 31, 32]);
         let astray_shared = damaged(layout, |image| {
-            map(image, 11, 0);
-            slot(image, 0, 3072, 10);
-            slot(image, 2, 3072, 10);
+            map(image, 25, 0);
+            slot(image, 0, 3072, 24);
+            slot(image, 2, 3072, 24);
         });
-        loses(astray_shared, &[(0, 6), (2, 6), (5, 1)], &[10, 20]);
+        loses(astray_shared, &[(0, 6), (2, 6), (5, 1)], &[24, 20]);
         let several = damaged(layout, |image| {
-            image[24 * 2 + 16] = 1;
+            byte(image, 2, 16, 1);
             map(image, 30, end_mark(layout));
             map(image, 700, 700);
         });
@@ -206,13 +244,13 @@ fn two_reasons_at_once() {
 #[test]
 fn names_of_dropped_slots_are_kept() {
     for layout in LAYOUTS {
-        for (length, start, number) in [(0, 10, 4), (2048, 0, 6), (1, 10, 7)] {
+        for (length, start, number) in [(0, 24, 4), (2048, 0, 6), (1, 24, 7)] {
             let image = damaged(layout, |image| {
                 slot(image, 0, length, start);
                 name_of(image, 0, 2);
                 name_of(image, 0, 5);
             });
-            loses(image, &[(0, number), (2, 1), (5, 5)], &[10, 11, 30, 31, 32]);
+            loses(image, &[(0, number), (2, 1), (5, 5)], &[24, 25, 30, 31, 32]);
         }
         // the second of three has a kept block, so that the third is the name's next
         let shared = damaged(layout, |image| {
@@ -228,7 +266,7 @@ fn names_of_dropped_slots_are_kept() {
 fn chains_on_dropped_blocks_are_kept() {
     for layout in LAYOUTS {
         let malformed = damaged(layout, |image| {
-            image[16] = 1;
+            byte(image, 0, 16, 1);
             chain_of(image, 0, 5);
         });
         loses(malformed, &[(0, 4), (2, 1), (5, 1)], &[30, 31, 32]);
@@ -238,14 +276,14 @@ fn chains_on_dropped_blocks_are_kept() {
         });
         loses(twice, &[(0, 1), (2, 5), (5, 1)], &[30, 31, 32]);
         let within = damaged(layout, |image| {
-            slot(image, 0, 1, 10);
-            slot(image, 5, 1, 11);
+            slot(image, 0, 1, 24);
+            slot(image, 5, 1, 25);
         });
-        loses(within, &[(0, 7), (2, 1), (5, 1)], &[10, 30, 31, 32]);
+        loses(within, &[(0, 7), (2, 1), (5, 1)], &[24, 30, 31, 32]);
         // chains that meet end together: who meets slot 2, which ends on slot 0's chain, ends there too
         let shared = damaged(layout, |image| {
             slot(image, 2, 2048, 20);
-            map(image, 20, 11);
+            map(image, 20, 25);
             slot(image, 5, 5120, 30);
             map(image, 31, 20);
         });
@@ -259,8 +297,9 @@ fn nothing_can_be_kept() {
     for layout in LAYOUTS {
         let mut image = empty(layout);
         let mut due = image.clone();
-        for slot in 0..64 {
-            image[24 * slot..][..22].fill(255);
+        for slot in 0..layout.slots() {
+            let from = at(&image, slot);
+            image[from..][..22].fill(254); // 255 in slot 0 would tell another kind
         }
         for block in 0..layout.blocks() {
             map(&mut image, block, 65535);
@@ -268,41 +307,42 @@ fn nothing_can_be_kept() {
                 map(&mut due, block, 65535);
             }
         }
-        let told: Vec<(usize, u8)> = (0..64).map(|slot| (slot, 4)).collect();
+        let told: Vec<(usize, u8)> = (0..layout.slots()).map(|slot| (slot, 4)).collect();
         let count = if layout.kind == Kind::S900 { layout.data_blocks() } else { layout.blocks() };
         comes_to(image, &due, &told, count);
     }
 }
 
-/// Noise in directory and map but for the identities, 0 in three type bytes: every used slot is malformed.
+/// Noise in directory and map but for what tells the kind, 0 in three type bytes and none of an S3000's types: every used slot is
+/// malformed.
 #[test]
 fn noise_is_mended() {
     let mut random = Random::new(7);
-    for layout in LAYOUTS.into_iter().cycle().take(12) {
-        let end = 1536 + 2 * layout.blocks();
-        let (mut image, mut due) = (random.bytes(layout.image_bytes()), empty(layout));
-        (0..64).for_each(|slot| image[24 * slot + 22..][..2].copy_from_slice(&layout.identity()));
-        (0..64).for_each(|slot| image[24 * slot + 16] |= 128);
-        for slot in [0, 13, 63] {
-            image[24 * slot + 16] = 0;
-            due[24 * slot..][..24].copy_from_slice(&image[24 * slot..][..24]);
+    for layout in LAYOUTS.into_iter().cycle().take(15) {
+        let (end, slots) = (1536 + 2 * layout.blocks(), layout.slots());
+        let mut image = random.bytes(layout.image_bytes());
+        image[16] = if layout.kind == Kind::S3000 { 255 } else { 128 };
+        let mut due = image.clone();
+        for slot in 0..slots {
+            let from = at(&image, slot);
+            if layout.kind != Kind::S3000 {
+                image[from + 22..][..2].copy_from_slice(&layout.identity());
+            }
+            image[from + 16] =
+                if [0, 13, slots - 1].contains(&slot) { 0 } else { image[from + 16] % 32 + 128 };
+            due[from..][..24].copy_from_slice(&image[from..][..24]);
+            if image[from + 16] != 0 {
+                due[from..][..22].fill(0);
+            }
         }
+        due[1536..end].copy_from_slice(&empty(layout)[1536..end]);
         if layout.kind == Kind::S900 {
             due[1536..1536 + 2 * layout.first()].copy_from_slice(&image[1536..1536 + 2 * layout.first()]);
         }
-        due[end..].copy_from_slice(&image[end..]);
         let others = (1536..end).step_by(2).filter(|&at| image[at..at + 2] != due[at..at + 2]).count();
-        let told: Vec<(usize, u8)> =
-            (0..64).filter(|slot| ![0, 13, 63].contains(slot)).map(|slot| (slot, 4)).collect();
+        let used = (0..slots).filter(|slot| ![0, 13, slots - 1].contains(slot));
+        let told: Vec<(usize, u8)> = used.map(|slot| (slot, 4)).collect();
         comes_to(image, &due, &told, others);
-    }
-}
-
-fn any_plan(layout: Layout, random: &mut Random) -> Plan {
-    match random.below(3) {
-        0 => Plan::scattered(layout, random),
-        1 => Plan::near_full(random),
-        _ => Plan::full_directory(random),
     }
 }
 
@@ -310,9 +350,9 @@ fn any_plan(layout: Layout, random: &mut Random) -> Plan {
 fn accepted_disks_stay_as_they_are() {
     let mut random = Random::new(8);
     for layout in LAYOUTS.into_iter().cycle().take(40) {
-        let image = maker::disk(layout, any_plan(layout, &mut random), &mut random);
+        let image = maker::disk(layout, Plan::any(layout, &mut random), &mut random);
         let disk = read(&image).expect("accepted");
-        let used = (0..64).filter(|&slot| disk.file(slot).is_some());
+        let used = (0..layout.slots()).filter(|&slot| disk.file(slot).is_some());
         let told: Vec<(usize, u8)> = used.map(|slot| (slot, 1)).collect();
         comes_to(image.clone(), &image, &told, 0);
     }
@@ -323,17 +363,21 @@ fn accepted_disks_stay_as_they_are() {
 fn what_is_kept_reads_by_its_own_chain() {
     let (mut random, mut kept) = (Random::new(9), 0);
     for layout in LAYOUTS.into_iter().cycle().take(40) {
-        let mut image = maker::disk(layout, any_plan(layout, &mut random), &mut random);
+        let mut image = maker::disk(layout, Plan::any(layout, &mut random), &mut random);
         let disk = read(&image).expect("accepted");
         let before = image.clone();
         for _ in 0..3 {
-            spoil(&mut image, &disk, random.pick(&FAULTS[2..]), &mut random);
+            spoil(&mut image, &disk, random.pick(OF_KNOWN_KIND), &mut random);
         }
-        let (spoilt, mut report) = (image.clone(), [0; 64]);
+        let (spoilt, mut report) = (image.clone(), [0; 512]);
         salvage(&mut image, &mut report).expect("a known kind");
         let data = 1024 * layout.first();
         assert!(image[data..] == before[data..]);
-        for slot in (0..64).filter(|&slot| spoilt[24 * slot..][..24] == before[24 * slot..][..24]) {
+        let same = |slot: &usize| {
+            let from = at(&spoilt, *slot);
+            spoilt[from..from + 24] == before[from..from + 24]
+        };
+        for slot in (0..layout.slots()).filter(same) {
             let Some(file) = disk.file(slot).filter(|_| report[slot] == 1) else { continue };
             let mut output = vec![0; file.length];
             assert!(page(&image, slot, 0, &mut output).is_ok_and(|page| page.end));
@@ -353,26 +397,34 @@ fn refusals_in_their_order() {
         assert!(lent == image && report == vec![9; room]);
         answer
     }
-    let spoilt = damaged(S1000_HIGH, |image| image[16] = 1);
-    for room in [0, 1, 63] {
-        assert_eq!(refused(&spoilt[1..], room), Err(Refusal { number: 1, place: 0 }));
-        assert_eq!(refused(&spoilt, room), Err(Refusal { number: 21, place: 0 }));
+    for (layout, slots) in [(S1000_HIGH, 64), (S3000, 512)] {
+        let spoilt = damaged(layout, |image| byte(image, 0, 16, 1));
+        for room in [0, 1, 63, slots - 1] {
+            assert_eq!(refused(&spoilt[1..], room), Err(Refusal { number: 1, place: 0 }));
+            assert_eq!(refused(&spoilt, room), Err(Refusal { number: 21, place: 0 }));
+        }
     }
-    for room in [0, 63, 64, 100] {
+    for room in [0, 63, 64, 100, 512] {
         assert_eq!(refused(&[], room), Err(Refusal { number: 1, place: 0 }));
-        assert_eq!(refused(&spoilt[..819_199], room), Err(Refusal { number: 1, place: 0 }));
+        assert_eq!(refused(&three(S1000_HIGH)[..819_199], room), Err(Refusal { number: 1, place: 0 }));
         let mixed = damaged(S1000_HIGH, |image| image[24 * 63 + 23] = 0);
         assert_eq!(refused(&mixed, room), Err(Refusal { number: 2, place: 0 }));
+        let low = damaged(S900_LOW, |image| image[16] = 255);
+        assert_eq!(refused(&low, room), Err(Refusal { number: 2, place: 0 }));
+        let read = damaged(S3000, |image| image[..48].copy_from_slice(&[[7; 24], [8; 24]].concat()));
+        assert_eq!(refused(&read, room), Err(Refusal { number: 2, place: 0 }));
     }
 }
 
-/// A report of just 64 bytes is enough, and of a long one all past those is kept.
+/// A report of just a byte for each slot is enough, and of a long one all past those is kept.
 #[test]
 fn reports_of_any_room() {
-    for room in [64, 65, 1000] {
-        let mut report = vec![9; room];
-        assert_eq!(salvage(&mut three(S900_LOW), &mut report), Ok(0));
+    for (layout, slots, more) in
+        [(S900_LOW, 64, 0), (S900_LOW, 64, 1), (S900_LOW, 64, 936), (S3000, 512, 0), (S3000, 512, 9)]
+    {
+        let mut report = vec![9; slots + more];
+        assert_eq!(salvage(&mut three(layout), &mut report), Ok(0));
         assert_eq!(report[..6], [1, 0, 1, 0, 0, 1]);
-        assert!(report[6..64].iter().all(|&said| said == 0) && report[64..].iter().all(|&byte| byte == 9));
+        assert_eq!((&report[6..slots], &report[slots..]), (&vec![0; slots - 6][..], &vec![9; more][..]));
     }
 }
