@@ -29,6 +29,13 @@ pub enum Call {
     Program { file: Vec<u8> },
 }
 
+impl Call {
+    /// Whether it is made on an image, and not on a file.
+    pub fn is_on_image(&self) -> bool {
+        !matches!(self, Call::Unpack { .. } | Call::Pack { .. } | Call::Program { .. })
+    }
+}
+
 /// What a call gave, as C sees it.
 #[derive(Clone, Copy, Debug, PartialEq, Eq)]
 #[allow(missing_docs)]
@@ -163,7 +170,11 @@ fn checked(answer: Answer<calls::Checked>) -> Checked {
         Ok(calls::Checked { layout, files, free }) => Checked {
             refusal: 0,
             place: 0,
-            kind: if layout.kind == Kind::S900 { 900 } else { 1000 },
+            kind: match layout.kind {
+                Kind::S900 => 900,
+                Kind::S1000 => 1000,
+                Kind::S3000 => 3000,
+            },
             density: u32::from(layout.density == Density::High),
             files,
             free,

@@ -3,6 +3,7 @@
 use crate::call::{Call, MARGIN, Outcome, by_library, by_model};
 use crate::salvages::{self, Before};
 use crate::{disks, programs, samples, scripts, spellings};
+use model::layout::LAYOUTS;
 use model::random::Random;
 use std::fmt;
 
@@ -57,11 +58,16 @@ impl fmt::Display for Disagreement {
     }
 }
 
+/// Calls by the number they were refused with; 0 for those that were done.
+pub type Refusals = [usize; 22];
+
 /// How many calls were made.
 #[derive(Clone, Copy, Debug, Default, PartialEq, Eq)]
 pub struct Tally {
-    /// By the number they were refused with; 0 for those that were done.
-    pub refusals: [usize; 22],
+    /// All of them.
+    pub refusals: Refusals,
+    /// Those on an image that seems to have a layout, in the order of [`LAYOUTS`].
+    pub layouts: [Refusals; LAYOUTS.len()],
     /// Those that met another spelling of their name.
     pub spellings: spellings::Counts,
     /// What salvages did.
@@ -76,7 +82,9 @@ impl Tally {
 
     /// Adds another tally's calls.
     pub fn add(&mut self, other: &Tally) {
-        self.refusals.iter_mut().zip(other.refusals).for_each(|(sum, more)| *sum += more);
+        let sums = self.refusals.iter_mut().chain(self.layouts.iter_mut().flatten());
+        let mores = other.refusals.iter().chain(other.layouts.iter().flatten());
+        sums.zip(mores).for_each(|(sum, more)| *sum += more);
         self.spellings.iter_mut().zip(&other.spellings).for_each(|(sum, more)| sum.add(more));
         self.salvages.iter_mut().zip(&other.salvages).for_each(|(sum, more)| sum.add(more));
     }
@@ -93,6 +101,15 @@ pub struct Case {
     tally: Tally,
     library: Vec<u8>,
     model: Vec<u8>,
+}
+
+/// What is to be known of an image before a call, so that the call can be counted; layouts as their places in [`LAYOUTS`].
+struct Seen {
+    layout: Option<usize>,
+    /// On which the call's name stands in another spelling.
+    respelt: Option<usize>,
+    /// If the call is a salvage.
+    mended: Option<Before>,
 }
 
 /// Tells how to run a case again that ended in a panic.
@@ -175,8 +192,12 @@ impl Case {
         let end = self.model.len().saturating_sub(MARGIN);
         let start = MARGIN.min(end);
         let image = &self.model[start..end];
-        let (lent, respelt, mended) =
-            (call.clone(), spellings::met(call, image), salvages::before(call, image));
+        let seen = Seen {
+            layout: spellings::layout_of(image).filter(|_| call.is_on_image()),
+            respelt: spellings::met(call, image),
+            mended: salvages::before(call, image),
+        };
+        let lent = call.clone();
         let library = by_library(&lent, &mut self.library[start..end]);
         let model = by_model(call, &mut self.model[start..end]);
         let difference = if lent != *call {
@@ -192,21 +213,24 @@ impl Case {
         } else if let Some(at) = first_apart(&self.library, &self.model) {
             format!("image at {}", told(&self.library, &self.model, at))
         } else {
-            self.count(call, &model, respelt, mended);
+            self.count(call, &model, &seen);
             return Ok(());
         };
         let (sort, seed, about, turn) = (self.sort, self.seed, self.about.clone(), self.tally.calls());
         Err(Box::new(Disagreement { sort, seed, about, turn, call: call.to_string(), difference }))
     }
 
-    fn count(&mut self, call: &Call, outcome: &Outcome, respelt: Option<usize>, mended: Option<Before>) {
+    fn count(&mut self, call: &Call, outcome: &Outcome, seen: &Seen) {
         let refusal = outcome.given.refusal();
         self.tally.refusals[refusal as usize] += 1;
-        if let Some(layout) = respelt {
+        if let Some(layout) = seen.layout {
+            self.tally.layouts[layout][refusal as usize] += 1;
+        }
+        if let Some(layout) = seen.respelt {
             spellings::count(&mut self.tally.spellings, layout, call, refusal);
         }
-        if let Some(before) = mended {
-            salvages::count(&mut self.tally.salvages, &before, refusal, &outcome.output[MARGIN..]);
+        if let Some(before) = &seen.mended {
+            salvages::count(&mut self.tally.salvages, before, refusal, &outcome.output[MARGIN..]);
         }
     }
 }

@@ -2,7 +2,7 @@
 
 use crate::call::{Call, MARGIN};
 use model::disk::Disk;
-use model::layout::{BLOCK, Kind, SLOTS};
+use model::layout::{BLOCK, Kind, Layout};
 use model::maker::{legal_name, legal_type, respelt};
 use model::random::Random;
 
@@ -31,11 +31,12 @@ pub fn near(due: usize, random: &mut Random) -> usize {
     }
 }
 
-/// A name: one on the disk, to the letter or in another spelling, a new one, or an illegal one.
-pub fn name(kind: Kind, disk: Option<&Disk>, random: &mut Random) -> Vec<u8> {
-    let mut name = legal_name(kind, random);
+/// A name: one on the disk, often the last slot's, to the letter or in another spelling, a new one, or an illegal one.
+pub fn name(layout: Layout, disk: Option<&Disk>, random: &mut Random) -> Vec<u8> {
+    let mut name = legal_name(layout.kind, random);
+    let slot = if random.one_in(8) { layout.slots() - 1 } else { random.below(layout.slots()) };
     if random.one_in(2)
-        && let Some(file) = disk.and_then(|disk| disk.file(random.below(SLOTS)))
+        && let Some(file) = disk.and_then(|disk| disk.file(slot))
     {
         name.clone_from(&file.name);
     }
@@ -65,21 +66,27 @@ pub fn name(kind: Kind, disk: Option<&Disk>, random: &mut Random) -> Vec<u8> {
 pub fn file_type(kind: Kind, random: &mut Random) -> u8 {
     match random.below(30) {
         0 => random.byte(),
-        1 | 2 => random.pick(&[0, 64, 65, 90, 91, 96, 97, 122, 123, 255]),
+        1 | 2 => random.pick(&[0, 64, 65, 83, 90, 91, 96, 97, 115, 122, 123, 192, 193, 211, 218, 219, 255]),
         _ => legal_type(kind, random),
     }
 }
 
+/// A disk's used slots.
+pub fn used(disk: &Disk) -> Vec<usize> {
+    (0..disk.files.len()).filter(|&slot| disk.file(slot).is_some()).collect()
+}
+
 /// A slot, mostly of the directory.
-pub fn slot(disk: Option<&Disk>, random: &mut Random) -> usize {
-    let used: Vec<usize> =
-        disk.map_or(Vec::new(), |disk| (0..SLOTS).filter(|&slot| disk.file(slot).is_some()).collect());
+pub fn slot(layout: Layout, disk: Option<&Disk>, random: &mut Random) -> usize {
+    let used = disk.map_or(Vec::new(), used);
     if !used.is_empty() && !random.one_in(3) {
         return random.pick(&used);
     }
     match random.below(10) {
-        0 => random.pick(&[usize::MAX, usize::MAX - 1, 1 << 32, 1 << 63, 256, 1 << 16]),
-        _ => random.below(71),
+        0 => {
+            random.pick(&[usize::MAX, usize::MAX - 1, 1 << 32, 1 << 63, 256, 1 << 16, 63, 64, 511, 512, 513])
+        }
+        _ => random.below(layout.slots() + 7),
     }
 }
 
@@ -107,15 +114,16 @@ fn page_length(length: usize, random: &mut Random) -> usize {
     }
 }
 
-/// A report for a salvage, one in three too short.
-fn report(random: &mut Random) -> Vec<u8> {
-    let length = near(SLOTS, random);
+/// A report for a salvage, one in three too short; now and then one that would do for another kind.
+fn report(layout: Layout, random: &mut Random) -> Vec<u8> {
+    let due = if random.one_in(8) { random.pick(&[64, 512]) } else { layout.slots() };
+    let length = near(due, random);
     output(length, random)
 }
 
 /// A call for a slot's blocks: no output, one too short, one that fits, or a longer one.
-fn blocks(disk: Option<&Disk>, random: &mut Random) -> Call {
-    let slot = slot(disk, random);
+fn blocks(layout: Layout, disk: Option<&Disk>, random: &mut Random) -> Call {
+    let slot = slot(layout, disk, random);
     let due = disk.and_then(|disk| disk.file(slot)).map_or(2, |file| file.chain.len());
     let length = if random.one_in(8) { 0 } else { near(due, random) };
     Call::Blocks { slot, output: block_numbers(length, random) }
@@ -135,13 +143,13 @@ fn content_length(free: usize, random: &mut Random) -> usize {
 }
 
 /// Any call on a disk; `puts` of ten calls that change it put.
-pub fn call(kind: Kind, disk: Option<&Disk>, puts: usize, random: &mut Random) -> Call {
+pub fn call(layout: Layout, disk: Option<&Disk>, puts: usize, random: &mut Random) -> Call {
     match random.below(12) {
         0 => Call::Check,
-        1 => Call::List { slot: slot(disk, random) },
-        2 => Call::Find { name: name(kind, disk, random) },
+        1 => Call::List { slot: slot(layout, disk, random) },
+        2 => Call::Find { name: name(layout, disk, random) },
         3..=5 => {
-            let slot = slot(disk, random);
+            let slot = slot(layout, disk, random);
             let length = disk.and_then(|disk| disk.file(slot)).map_or(1500, |file| file.length);
             let offset = offset(length, random);
             Call::Page {
@@ -150,29 +158,29 @@ pub fn call(kind: Kind, disk: Option<&Disk>, puts: usize, random: &mut Random) -
                 output: output(page_length(length.saturating_sub(offset), random), random),
             }
         }
-        6 => blocks(disk, random),
-        7 => Call::Salvage { report: report(random) },
+        6 => blocks(layout, disk, random),
+        7 => Call::Salvage { report: report(layout, random) },
         _ if random.below(10) < puts => {
             let length = content_length(disk.map_or(3, |disk| disk.free().len()), random);
-            let (name, file_type) = (name(kind, disk, random), file_type(kind, random));
+            let (name, file_type) = (name(layout, disk, random), file_type(layout.kind, random));
             Call::Put { name, file_type, content: random.bytes(length) }
         }
-        _ => Call::Remove { name: name(kind, disk, random) },
+        _ => Call::Remove { name: name(layout, disk, random) },
     }
 }
 
 /// One call of each sort.
-pub fn each(kind: Kind, disk: Option<&Disk>, random: &mut Random) -> Vec<Call> {
-    let (slot, offset) = (slot(disk, random), offset(2000, random));
-    let name = name(kind, disk, random);
+pub fn each(layout: Layout, disk: Option<&Disk>, random: &mut Random) -> Vec<Call> {
+    let (slot, offset) = (slot(layout, disk, random), offset(2000, random));
+    let (name, file_type) = (name(layout, disk, random), file_type(layout.kind, random));
     let content = random.below(3000);
     vec![
         Call::Check,
         Call::List { slot },
         Call::Find { name: name.clone() },
         Call::Page { slot, offset, output: output(random.below(3000), random) },
-        blocks(disk, random),
-        Call::Put { name: name.clone(), file_type: file_type(kind, random), content: random.bytes(content) },
+        blocks(layout, disk, random),
+        Call::Put { name: name.clone(), file_type, content: random.bytes(content) },
         Call::Remove { name },
     ]
 }

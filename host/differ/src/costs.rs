@@ -2,13 +2,12 @@
 //! the image of a text, and calls the same pages.
 
 use crate::choose;
-use crate::disks::any_plan;
 use model::calls::{page, page_cost};
 use model::cases::{printed_by, text_of};
 use model::disk::read;
 use model::faults::damage;
-use model::layout::LAYOUTS;
-use model::maker;
+use model::layout::{IGNORED, Kind, LAYOUTS, TYPE_AT};
+use model::maker::{self, Plan};
 use model::random::Random;
 use std::path::Path;
 
@@ -16,6 +15,10 @@ use std::path::Path;
 const PAGES: usize = 60;
 /// The most bytes that the program pages into.
 const ROOM: usize = 65_536;
+/// The most bytes of a text that the program reads.
+const TEXT: usize = 65_536;
+/// Files of an S3000 disk: the text that makes more of them would be too long.
+const FILES: usize = 150;
 
 /// How many pages had bytes, had none, and were refused.
 #[derive(Clone, Copy, Debug, Default, PartialEq, Eq)]
@@ -34,14 +37,22 @@ pub struct Pages {
 pub fn run(program: &Path, seed: u64, pages: &mut Pages) -> Result<(), String> {
     let mut random = Random::new(seed);
     let layout = random.pick(&LAYOUTS);
-    let mut image = maker::disk(layout, any_plan(layout, &mut random), &mut random);
+    let mut plan = Plan::any(layout, &mut random);
+    if layout.kind == Kind::S3000 {
+        plan.files = plan.files.min(FILES);
+    }
+    let mut image = maker::disk(layout, plan, &mut random);
     let disk = read(&image).ok();
     if random.one_in(4) {
+        let told = image[TYPE_AT];
         damage(&mut image, layout, &mut random);
+        if image[TYPE_AT] == IGNORED {
+            image[TYPE_AT] = told; // else data would be a directory, and the text too long
+        }
     }
     let (mut text, mut lines) = (text_of(&image), Vec::new());
     for _ in 0..PAGES {
-        let slot = choose::slot(disk.as_ref(), &mut random);
+        let slot = choose::slot(layout, disk.as_ref(), &mut random);
         let length = disk.as_ref().and_then(|disk| disk.file(slot)).map_or(1500, |file| file.length);
         let offset = choose::offset(length, &mut random);
         let size = random.pick(&[0, 1, 2, 1023, 1024, 1025, 4096, 10_000, ROOM - 1, ROOM]);
@@ -51,6 +62,7 @@ pub fn run(program: &Path, seed: u64, pages: &mut Pages) -> Result<(), String> {
             told(&image, slot, offset, size, pages),
         ));
     }
+    assert!(text.len() <= TEXT, "seed {seed}: a text of {} bytes", text.len());
     let printed = printed_by(program, &text)?;
     for (at, (about, line)) in lines.iter().enumerate() {
         let printed = printed.lines().nth(at).unwrap_or("nothing");

@@ -3,9 +3,10 @@
 use crate::call::Call;
 use crate::case::{Case, Disagreement};
 use crate::choose;
-use model::disk::read;
+use crate::spellings::layout_of;
+use model::disk::{Disk, read};
 use model::faults::{FAULTS, damage as damage_bytes, spoil, wreck};
-use model::layout::{BLOCK, LAYOUTS, Layout, SLOT_BYTES, SLOTS};
+use model::layout::{BLOCK, IGNORED, Kind, LAYOUTS, Layout, SLOTS, TYPE_AT};
 use model::maker::{self, Plan};
 use model::random::Random;
 
@@ -20,16 +21,27 @@ fn sequence(case: &mut Case, layout: Layout, plan: Plan, calls: usize, random: &
             puts = random.within(2, 9);
         }
         let disk = read(case.image()).ok();
-        let call = choose::call(layout.kind, disk.as_ref(), puts, random);
+        let call = choose::call(layout, disk.as_ref(), puts, random);
         case.call(&call)?;
     }
-    downloads(case, 8, random)
+    let Ok(disk) = read(case.image()) else { return Ok(()) };
+    let slots = some_files(&disk, random);
+    downloads(case, &disk, &slots, 8, random)
 }
 
-/// Every file paged to its end, in so many pages at most; the pages' ends are compared as all answers are.
-fn downloads(case: &mut Case, pages: usize, random: &mut Random) -> Done {
-    let Ok(disk) = read(case.image()) else { return Ok(()) };
-    for slot in 0..SLOTS {
+/// The slots of every file; on S3000 disks of any 20 of them, as 512 would take the time of other cases.
+fn some_files(disk: &Disk, random: &mut Random) -> Vec<usize> {
+    let mut slots = choose::used(disk);
+    if disk.layout.kind == Kind::S3000 {
+        random.shuffle(&mut slots);
+        slots.truncate(20);
+    }
+    slots
+}
+
+/// Files paged to their ends, in so many pages at most; the pages' ends are compared as all answers are.
+fn downloads(case: &mut Case, disk: &Disk, slots: &[usize], pages: usize, random: &mut Random) -> Done {
+    for &slot in slots {
         let Some(file) = disk.file(slot) else { continue };
         let size =
             random.pick(&[BLOCK, BLOCK - 1, BLOCK + 1, 7 * BLOCK, 100_000]).max(file.length / pages + 1);
@@ -40,13 +52,15 @@ fn downloads(case: &mut Case, pages: usize, random: &mut Random) -> Done {
     Ok(())
 }
 
-/// A salvage of the image, now and then after one whose report is too short. Then both accept the disk, and list and page every file of
-/// it alike; some calls more, which may use what was freed, and a second salvage.
+/// A salvage of the image, now and then after one whose report is too short. Then both accept the disk, and list and page its files
+/// alike; some calls more, which may use what was freed, and a second salvage.
 fn mended(case: &mut Case, random: &mut Random) -> Done {
+    let slots = layout_of(case.image()).map_or(SLOTS, |layout| LAYOUTS[layout].slots());
     if random.one_in(4) {
-        case.call(&Call::Salvage { report: choose::output(random.below(SLOTS), random) })?;
+        let short = if random.one_in(4) { slots - 1 } else { random.below(slots) };
+        case.call(&Call::Salvage { report: choose::output(short, random) })?;
     }
-    let room = SLOTS + random.pick(&[0, 0, 1, 40]);
+    let room = slots + random.pick(&[0, 0, 1, 40]);
     case.call(&Call::Salvage { report: choose::output(room, random) })?;
     case.call(&Call::Check)?;
     let disk = match read(case.image()) {
@@ -56,15 +70,16 @@ fn mended(case: &mut Case, random: &mut Random) -> Done {
             return Ok(());
         }
     };
-    for slot in (0..SLOTS).filter(|&slot| disk.file(slot).is_some()) {
+    let files = some_files(&disk, random);
+    for &slot in &files {
         case.call(&Call::List { slot })?;
     }
-    downloads(case, 1, random)?;
+    downloads(case, &disk, &files, 1, random)?;
     for _ in 0..random.below(4) {
-        let call = choose::call(disk.layout.kind, Some(&disk), 6, random);
+        let call = choose::call(disk.layout, Some(&disk), 6, random);
         case.call(&call)?;
     }
-    case.call(&Call::Salvage { report: choose::output(SLOTS, random) })
+    case.call(&Call::Salvage { report: choose::output(slots, random) })
 }
 
 /// Scattered chains and gaps.
@@ -77,31 +92,24 @@ pub fn scattered(case: &mut Case, random: &mut Random) -> Done {
 
 /// Next to no room.
 pub fn near_full(case: &mut Case, random: &mut Random) -> Done {
-    let (layout, plan) = (random.pick(&LAYOUTS), Plan::near_full(random));
+    let layout = random.pick(&LAYOUTS);
+    let plan = Plan::near_full(layout, random);
     case.about(format!("near full {layout:?} {plan:?}"));
     sequence(case, layout, plan, random.within(150, 500), random)
 }
 
 /// No slot left, or next to none.
 pub fn full_directory(case: &mut Case, random: &mut Random) -> Done {
-    let (layout, plan) = (random.pick(&LAYOUTS), Plan::full_directory(random));
+    let layout = random.pick(&LAYOUTS);
+    let plan = Plan::full_directory(layout, random);
     case.about(format!("full directory {layout:?} {plan:?}"));
     sequence(case, layout, plan, random.within(150, 500), random)
-}
-
-/// Any of the three.
-pub fn any_plan(layout: Layout, random: &mut Random) -> Plan {
-    match random.below(3) {
-        0 => Plan::scattered(layout, random),
-        1 => Plan::near_full(random),
-        _ => Plan::full_directory(random),
-    }
 }
 
 /// Each fault: alone, twice (which place is the lowest?), or with another (which number comes first?).
 pub fn faults(case: &mut Case, random: &mut Random) -> Done {
     let layout = random.pick(&LAYOUTS);
-    let good = maker::disk(layout, any_plan(layout, random), random);
+    let good = maker::disk(layout, Plan::any(layout, random), random);
     let Ok(disk) = read(&good) else { return Ok(()) };
     for fault in FAULTS {
         let second = [None, Some(fault), Some(random.pick(&FAULTS[1..]))][random.below(3)];
@@ -112,7 +120,7 @@ pub fn faults(case: &mut Case, random: &mut Random) -> Done {
         }
         spoil(&mut image, &disk, fault, random);
         case.lend(&image);
-        for call in choose::each(layout.kind, Some(&disk), random) {
+        for call in choose::each(layout, Some(&disk), random) {
             case.call(&call)?;
         }
         mended(case, random)?;
@@ -124,7 +132,7 @@ pub fn faults(case: &mut Case, random: &mut Random) -> Done {
 pub fn wrecked(case: &mut Case, random: &mut Random) -> Done {
     let layout = random.pick(&LAYOUTS);
     case.about(format!("many faults on {layout:?}"));
-    let good = maker::disk(layout, any_plan(layout, random), random);
+    let good = maker::disk(layout, Plan::any(layout, random), random);
     let Ok(disk) = read(&good) else { return Ok(()) };
     for _ in 0..30 {
         let mut image = good.clone();
@@ -140,13 +148,13 @@ pub fn wrecked(case: &mut Case, random: &mut Random) -> Done {
 pub fn damage(case: &mut Case, random: &mut Random) -> Done {
     let layout = random.pick(&LAYOUTS);
     case.about(format!("damage on {layout:?}"));
-    let good = maker::disk(layout, any_plan(layout, random), random);
+    let good = maker::disk(layout, Plan::any(layout, random), random);
     let disk = read(&good).ok();
     for _ in 0..25 {
         case.lend(&good);
         case.change(|image| damage_bytes(image, layout, random));
         case.call(&Call::Check)?;
-        for call in choose::each(layout.kind, disk.as_ref(), random).into_iter().skip(1) {
+        for call in choose::each(layout, disk.as_ref(), random).into_iter().skip(1) {
             if random.one_in(2) {
                 case.call(&call)?;
             }
@@ -160,26 +168,32 @@ pub fn damage(case: &mut Case, random: &mut Random) -> Done {
 pub fn noise(case: &mut Case, random: &mut Random) -> Done {
     let layout = random.pick(&LAYOUTS);
     case.about(format!("noise, {layout:?}"));
-    let good = maker::disk(layout, any_plan(layout, random), random);
+    let good = maker::disk(layout, Plan::any(layout, random), random);
     for _ in 0..6 {
         let mut image = good.clone();
         match random.below(5) {
             0 => image.truncate(random.below(good.len())),
-            1 => image.truncate(random.pick(&[0, 1, 24, 1535, 1536, 3136, 4736, 5120])),
+            1 => image.truncate(random.pick(&[0, 1, 16, 17, 24, 1535, 1536, 3136, 4736, 5120, 17_408])),
             2 => image.resize(random.pick(&[819_199, 819_200, 819_201, 1_638_399, 1_638_400, 1_638_401]), 0),
-            3 => random.fill(&mut image[..5120]),
-            _ => {
-                random.fill(&mut image[..5120]);
-                for slot in 0..SLOTS {
-                    image[SLOT_BYTES * slot + 22..][..2].copy_from_slice(&layout.identity());
-                }
-            }
+            3 => random.fill(&mut image[..17_408]),
+            _ => noise_of(&mut image, layout, random),
         }
         case.lend(&image);
-        for call in choose::each(layout.kind, None, random) {
+        for call in choose::each(layout, None, random) {
             case.call(&call)?;
         }
         mended(case, random)?;
     }
     Ok(())
+}
+
+/// Noise in directory and map of an image, but for what tells its kind.
+fn noise_of(image: &mut [u8], layout: Layout, random: &mut Random) {
+    random.fill(&mut image[..BLOCK * layout.first()]);
+    for slot in 0..layout.slots() {
+        image[layout.slot_at(slot) + 22..][..2].copy_from_slice(&layout.identity());
+    }
+    if layout.kind == Kind::S3000 {
+        image[TYPE_AT] = IGNORED;
+    }
 }

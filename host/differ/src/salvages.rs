@@ -3,7 +3,7 @@
 use crate::call::Call;
 use crate::spellings::layout_of;
 use model::calls::check;
-use model::layout::{LAYOUTS, Layout, MAP_AT, SLOT_BYTES, SLOTS, blocks_for};
+use model::layout::{BLOCK, LAYOUTS, Layout, MAP_AT, blocks_for};
 
 /// What salvages did on one layout.
 #[derive(Clone, Copy, Debug, Default, PartialEq, Eq)]
@@ -21,13 +21,13 @@ pub struct Salvages {
 }
 
 /// Counts by layout, in the order of [`LAYOUTS`].
-pub type Counts = [Salvages; 4];
+pub type Counts = [Salvages; LAYOUTS.len()];
 
 /// An image of a known kind before a salvage.
 pub struct Before {
     /// As its place in [`LAYOUTS`].
     layout: usize,
-    /// Directory and map.
+    /// The blocks before the data area, with directory and map.
     head: Vec<u8>,
     /// What the check refuses it with, or 0.
     refusal: usize,
@@ -37,7 +37,7 @@ pub struct Before {
 pub fn before(call: &Call, image: &[u8]) -> Option<Before> {
     let (Call::Salvage { .. }, Some(layout)) = (call, layout_of(image)) else { return None };
     let refusal = check(image).map_or_else(|refusal| refusal.number as usize, |_| 0);
-    Some(Before { layout, head: image[..MAP_AT + 2 * LAYOUTS[layout].blocks()].to_vec(), refusal })
+    Some(Before { layout, head: image[..BLOCK * LAYOUTS[layout].first()].to_vec(), refusal })
 }
 
 /// Counts a salvage, by what it was refused with, or 0, and what it reported.
@@ -46,7 +46,8 @@ pub fn count(counts: &mut Counts, before: &Before, refusal: u32, report: &[u8]) 
     match refusal {
         0 => {
             sum.images[before.refusal] += 1;
-            report[..SLOTS].iter().for_each(|&said| sum.slots[usize::from(said)] += 1);
+            let told = &report[..LAYOUTS[before.layout].slots()];
+            told.iter().for_each(|&said| sum.slots[usize::from(said)] += 1);
             count_freed(sum, before, report);
         }
         21 => sum.short += 1,
@@ -58,8 +59,8 @@ pub fn count(counts: &mut Counts, before: &Before, refusal: u32, report: &[u8]) 
 fn count_freed(sum: &mut Salvages, before: &Before, report: &[u8]) {
     let layout = LAYOUTS[before.layout];
     let (mut names, mut blocks) = (Vec::new(), vec![false; layout.blocks()]);
-    for (slot, said) in report[..SLOTS].iter().enumerate() {
-        let name = &before.head[SLOT_BYTES * slot..][..16];
+    for (slot, said) in report[..layout.slots()].iter().enumerate() {
+        let name = &before.head[layout.slot_at(slot)..][..16];
         let chain = chain(layout, &before.head, slot);
         match said {
             0 => {}
@@ -78,7 +79,7 @@ fn count_freed(sum: &mut Salvages, before: &Before, report: &[u8]) {
 /// A slot's chain as far as it goes.
 fn chain(layout: Layout, head: &[u8], slot: usize) -> Vec<usize> {
     let two = |at: usize| usize::from(head[at]) + 256 * usize::from(head[at + 1]);
-    let entry = SLOT_BYTES * slot;
+    let entry = layout.slot_at(slot);
     let length = two(entry + 17) + 65_536 * usize::from(head[entry + 19]);
     let (mut chain, mut block) = (Vec::new(), two(entry + 20));
     while chain.len() < blocks_for(length).min(layout.blocks()) && layout.is_link(block) {

@@ -17,7 +17,7 @@ fn some_words(kind: Kind, count: usize, random: &mut Random) -> Vec<i16> {
     let word = |random: &mut Random| match (kind, random.below(4)) {
         (Kind::S900, 0) => random.pick(&[-2048, 2047, -1, 0]),
         (Kind::S900, _) => random.below(4096) as i16 - 2048,
-        (Kind::S1000, _) => random.next_number() as i16,
+        (Kind::S1000 | Kind::S3000, _) => random.next_number() as i16,
     };
     (0..count).map(|_| word(random)).collect()
 }
@@ -101,7 +101,7 @@ pub fn wrapping(case: &mut Case, random: &mut Random) -> Done {
         // S900: 3 bytes for 2 words; S1000: 4.
         let (count, data) = match kind {
             Kind::S900 => (2 * (0x5555_5556 + more), 2 + 3 * more),
-            Kind::S1000 => (0x8000_0000 + more, 2 * more),
+            Kind::S1000 | Kind::S3000 => (0x8000_0000 + more, 2 * more),
         };
         case.about(format!("{kind:?} sample of {count} words in {data} bytes"));
         let mut file = files::sample_header(kind, 0, random);

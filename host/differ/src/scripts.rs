@@ -3,11 +3,10 @@
 use crate::call::Call;
 use crate::case::{Case, Disagreement};
 use crate::choose;
-use crate::disks::any_plan;
 use model::disk::read;
 use model::faults::damage;
-use model::layout::{LAYOUTS, SLOTS};
-use model::maker;
+use model::layout::LAYOUTS;
+use model::maker::{self, Plan};
 use model::random::Random;
 use model::script::{ENTRY, PART};
 
@@ -15,7 +14,7 @@ use model::script::{ENTRY, PART};
 pub fn run(case: &mut Case, random: &mut Random) -> Result<(), Box<Disagreement>> {
     let layout = random.pick(&LAYOUTS);
     case.about(format!("scripts on {layout:?}"));
-    case.lend(&maker::disk(layout, any_plan(layout, random), random));
+    case.lend(&maker::disk(layout, Plan::any(layout, random), random));
     for _ in 0..12 {
         if random.one_in(12) {
             case.change(|image| damage(image, layout, random));
@@ -24,7 +23,7 @@ pub fn run(case: &mut Case, random: &mut Random) -> Result<(), Box<Disagreement>
         let (mut script, mut pool) = (Vec::new(), Vec::new());
         let calls = random.below(40);
         for _ in 0..=calls {
-            let call = choose::call(layout.kind, disk.as_ref(), 6, random);
+            let call = choose::call(layout, disk.as_ref(), 6, random);
             script.extend(entry(&call, &mut pool, random));
         }
         // The last entry is cut, so it is no call. Now and then there is a part for it all the same.
@@ -67,7 +66,7 @@ fn fields(call: &Call, pool: &mut Vec<u8>, random: &mut Random) -> (u8, Vec<usiz
     match call {
         // a script has no call for blocks, and none for a salvage
         Call::List { slot } | Call::Blocks { slot, .. } => (0, vec![*slot]),
-        Call::Salvage { .. } => (0, vec![random.below(SLOTS)]),
+        Call::Salvage { .. } => (0, vec![random.below(513)]),
         Call::Page { slot, offset, .. } => (1, vec![*slot, *offset]),
         Call::Find { name } => (2, pooled(name).to_vec()),
         Call::Remove { name } => (3, pooled(name).to_vec()),
