@@ -1,4 +1,5 @@
-/* Names typed in small letters, from C: on S1000 disks they are capitals, and all spellings of a name are one; S900 names keep their case. */
+/* Names typed in small letters, from C: on S1000 and S3000 disks they are capitals, and all spellings of a name are one; S900 names keep their
+ * case. */
 #include "disks.h"
 #include "skilletjay.h"
 
@@ -6,7 +7,6 @@ typedef struct {
     const shape *s;
     size_t n;
     uint8_t *image, *before;
-    uint8_t type;
 } disk;
 
 /* ---- calls by a name that is padded to the kind's length */
@@ -23,7 +23,7 @@ static sj_found find(const disk *d, const char *name) { return sj_find(d->image,
 
 /* Puts a content of one byte. */
 static sj_found put(disk *d, const char *name, uint8_t content) {
-    return sj_put(d->image, d->n, padded(d->s, name), (size_t)d->s->letters, d->type, &content, 1);
+    return sj_put(d->image, d->n, padded(d->s, name), (size_t)d->s->letters, d->s->type, &content, 1);
 }
 
 static uint32_t take_away(disk *d, const char *name) {
@@ -40,23 +40,26 @@ static uint8_t content(const disk *d, size_t slot) {
     return byte;
 }
 
-/* A slot lists this name, and its 16 bytes are these on the disk. */
-static void holds(const disk *d, size_t slot, const char *name, const char *area) {
+/* A slot lists this name, and has these letters on the disk and the kind's bytes after them. */
+static void holds(const disk *d, int slot, const char *name, const char *letters) {
     char due[13] = {0};
-    sj_listed l = sj_list(d->image, d->n, slot);
+    const uint8_t *e = d->image + slot_at(d->s, slot);
+    sj_listed l = sj_list(d->image, d->n, (size_t)slot);
     snprintf(due, sizeof due, "%-*s", d->s->letters, name);
     CHECK(l.refusal == 0 && memcmp(l.name, due, 12) == 0);
-    CHECK(memcmp(d->image + 24 * slot, area, 16) == 0);
+    CHECK(memcmp(e, letters, (size_t)d->s->letters) == 0);
+    for (int i = d->s->letters; i < 16; i++)
+        CHECK(e[i] == padding(d->s, i));
 }
 
 /* ---- what the client asked for */
 
-/* "Bass c2" on an S1000 disk, beside another file: kept in capitals, found and removed by any spelling, and put once. */
+/* "Bass c2" on an S1000 or S3000 disk, beside another file: kept in capitals, found and removed by any spelling, and put once. */
 static void one_name(disk *d) {
     static const char *const spellings[] = {"BASS C2", "bass c2", "bAsS C2", "Bass c2"};
     CHECK(gives(put(d, "other", 1), 0, 0, 0) && gives(put(d, "Bass c2", 2), 0, 0, 1));
-    holds(d, 0, "OTHER", "\31\36\22\17\34\12\12\12\12\12\12\12    ");
-    holds(d, 1, "BASS C2", "\14\13\35\35\12\15\2\12\12\12\12\12    ");
+    holds(d, 0, "OTHER", "\31\36\22\17\34\12\12\12\12\12\12\12");
+    holds(d, 1, "BASS C2", "\14\13\35\35\12\15\2\12\12\12\12\12");
     memcpy(d->before, d->image, d->n);
     for (size_t k = 0; k < sizeof spellings / sizeof *spellings; k++) {
         CHECK(gives(find(d, spellings[k]), 0, 0, 1));
@@ -71,8 +74,8 @@ static void one_name(disk *d) {
 /* "Bass" and "BASS" on an S900 disk are two files, found and removed apart; a third spelling is none of them. */
 static void two_names(disk *d) {
     CHECK(gives(put(d, "Bass", 1), 0, 0, 0) && gives(put(d, "BASS", 2), 0, 0, 1));
-    holds(d, 0, "Bass", "Bass      \0\0\0\0\0");
-    holds(d, 1, "BASS", "BASS      \0\0\0\0\0");
+    holds(d, 0, "Bass", "Bass      ");
+    holds(d, 1, "BASS", "BASS      ");
     memcpy(d->before, d->image, d->n);
     CHECK(gives(find(d, "Bass"), 0, 0, 0) && gives(find(d, "BASS"), 0, 0, 1) && gives(find(d, "bass"), 10, 0, 0));
     CHECK(gives(put(d, "Bass", 3), 12, 0, 0) && gives(put(d, "BASS", 3), 12, 1, 0) && take_away(d, "bass") == 10);
@@ -83,14 +86,14 @@ static void two_names(disk *d) {
 
 /* ---- every letter, and every byte at every place of a name */
 
-/* Each letter put small and found as a capital, and the other way: one name on S1000 disks, two on S900 disks. */
+/* Each letter put small and found as a capital, and the other way: two names on S900 disks, one on others. */
 static void letters(disk *d) {
     for (int k = 0; k < 26; k++) {
         const char small[2] = {(char)('a' + k), 0}, capital[2] = {(char)('A' + k), 0};
         for (int turn = 0; turn < 2; turn++) {
             const char *one = turn ? small : capital, *other = turn ? capital : small;
-            bool same = d->s->kind == 1000;
-            CHECK(gives(put(d, one, 1), 0, 0, 0) && d->image[0] == stored(d->s, same ? *capital : *one));
+            bool same = d->s->kind != 900;
+            CHECK(gives(put(d, one, 1), 0, 0, 0) && d->image[d->s->directory] == stored(d->s, same ? *capital : *one));
             CHECK(gives(find(d, one), 0, 0, 0) && gives(find(d, other), same ? 0 : 10, 0, 0));
             CHECK(gives(put(d, other, 1), same ? 12 : 0, 0, same ? 0 : 1));
             CHECK(take_away(d, other) == 0 && take_away(d, one) == (same ? 10u : 0u));
@@ -112,7 +115,7 @@ static int code(const shape *s, int c) {
 /* Legal characters are stored as their codes; all others, such as those next to the letters, are refused by 11, and the image is kept. */
 static void every_byte(disk *d) {
     size_t n = (size_t)d->s->letters;
-    const uint8_t one = 1;
+    const uint8_t one = 1, *e = d->image + d->s->directory;
     CHECK(d->s->kind == 900 || (code(d->s, 64) < 0 && code(d->s, 91) < 0 && code(d->s, 96) < 0 && code(d->s, 123) < 0));
     memcpy(d->before, d->image, HEAD);
     for (size_t at = 0; at < n; at++)
@@ -121,16 +124,16 @@ static void every_byte(disk *d) {
             int due = code(d->s, c);
             name[at] = (uint8_t)c;
             CHECK(gives(sj_find(d->image, d->n, name, n), due < 0 ? 11 : 10, 0, 0));
-            CHECK(gives(sj_put(d->image, d->n, name, n, d->type, &one, 1), due < 0 ? 11 : 0, 0, 0));
-            CHECK(name[at] == c && (due < 0 || (d->image[at] == due && gives(sj_find(d->image, d->n, name, n), 0, 0, 0))));
+            CHECK(gives(sj_put(d->image, d->n, name, n, d->s->type, &one, 1), due < 0 ? 11 : 0, 0, 0));
+            CHECK(name[at] == c && (due < 0 || (e[at] == due && gives(sj_find(d->image, d->n, name, n), 0, 0, 0))));
             CHECK(sj_remove(d->image, d->n, name, n).refusal == (due < 0 ? 11u : 0u));
             CHECK(memcmp(d->before, d->image, HEAD) == 0);
         }
 }
 
 int main(void) {
-    for (int k = 0; k < 4; k++) {
-        disk d = {.s = &SHAPES[k], .n = 1024 * (size_t)SHAPES[k].blocks, .type = SHAPES[k].kind == 900 ? 'S' : 's'};
+    for (int k = 0; k < KINDS; k++) {
+        disk d = {.s = &SHAPES[k], .n = 1024 * (size_t)SHAPES[k].blocks};
         d.image = guarded(d.n);
         d.before = malloc(d.n);
         CHECK(d.before);

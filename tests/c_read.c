@@ -3,6 +3,8 @@
 #include "skilletjay.h"
 #include "volumes.h"
 
+static size_t file_slot(const volume *v, int f) { return (size_t)slot_of_file(v, f); }
+
 /* ---- disks that are whole */
 
 static void check_disk(const volume *v) {
@@ -14,13 +16,14 @@ static void check_disk(const volume *v) {
 
 static void list_slot(const volume *v, size_t slot) {
     uint8_t name[13] = {0};
-    bool there = slot % 9 == 0 && slot / 9 < FILES;
+    size_t apart = (size_t)v->s->apart;
+    bool there = slot % apart == 0 && slot / apart < FILES;
     sj_listed l = sj_list(v->image, v->n, slot);
     if (there)
-        snprintf((char *)name, sizeof name, "%-*s", v->s->letters, FILE_NAMES[slot / 9]);
+        snprintf((char *)name, sizeof name, "%-*s", v->s->letters, FILE_NAMES[slot / apart]);
     CHECK(l.refusal == (there ? 0u : 10u) && l.place == 0);
-    CHECK(l.length == (there ? FILE_LENGTHS[slot / 9] : 0) && memcmp(l.name, name, 12) == 0);
-    CHECK(l.type == (!there ? 0 : v->s->kind == 900 ? 'S' : 's'));
+    CHECK(l.length == (there ? FILE_LENGTHS[slot / apart] : 0) && memcmp(l.name, name, 12) == 0);
+    CHECK(l.type == (there ? v->s->type : 0));
 }
 
 /* A file's name is found at its own length and at no other; a sign in it is legal or not by the kind. */
@@ -31,7 +34,7 @@ static void find_file(const volume *v, int f) {
     for (size_t length = 0; length <= 13; length++) {
         sj_found found = sj_find(v->image, v->n, at_edge(1, name, length), length);
         CHECK(found.refusal == (length == letters ? 0u : 11u) && found.place == 0);
-        CHECK(found.slot == (length == letters ? 9 * (size_t)f : 0));
+        CHECK(found.slot == (length == letters ? file_slot(v, f) : 0));
     }
     name[0] = '!';
     CHECK(sj_find(v->image, v->n, at_edge(1, name, letters), letters).refusal == (v->s->kind == 900 ? 10u : 11u));
@@ -42,7 +45,7 @@ static sj_paged page(const volume *v, int f, size_t offset, size_t size) {
     size_t left = FILE_LENGTHS[f] - offset;
     uint8_t *out = edge(0, size);
     memset(out, 0xA5, size);
-    sj_paged p = sj_page(v->image, v->n, 9 * (size_t)f, offset, out, size);
+    sj_paged p = sj_page(v->image, v->n, file_slot(v, f), offset, out, size);
     CHECK(p.refusal == 0 && p.place == 0 && p.count == (left < size ? left : size));
     CHECK(memcmp(out, v->contents[f] + offset, p.count) == 0);
     for (size_t i = p.count; i < size; i++)
@@ -75,7 +78,7 @@ static void small_pages(const volume *v, int f) {
 
 /* At the length there is nothing left but the end, past it nothing; outputs of nothing may be null. */
 static void page_limits(const volume *v, int f) {
-    size_t length = FILE_LENGTHS[f], slot = 9 * (size_t)f;
+    size_t length = FILE_LENGTHS[f], slot = file_slot(v, f);
     uint8_t out[3] = {1, 2, 3};
     sj_paged p = sj_page(v->image, v->n, slot, length, out, 3);
     CHECK(p.refusal == 0 && p.count == 0 && p.end && out[0] == 1);
@@ -91,7 +94,7 @@ static void page_limits(const volume *v, int f) {
 
 /* The blocks that hold a file, in its order, to outputs of every sort of room that end at a page which traps. */
 static void file_blocks(const volume *v, int f) {
-    size_t count = blocks_for(FILE_LENGTHS[f]), rooms[] = {0, count - 1, count, count + 1, 1600}, slot = 9 * (size_t)f;
+    size_t count = blocks_for(FILE_LENGTHS[f]), rooms[] = {0, count - 1, count, count + 1, 1600}, slot = file_slot(v, f);
     for (size_t k = 0; k < sizeof rooms / sizeof *rooms; k++) {
         uint16_t *out = (uint16_t *)(void *)edge(0, 2 * rooms[k]);
         memset(out, 0xA5, 2 * rooms[k]);
@@ -108,12 +111,12 @@ static void file_blocks(const volume *v, int f) {
 /* All calls but that for a page ask for nothing but the length and the head: what follows the head can't be touched here. */
 static void head_only(const volume *v) {
     volume head = *v;
-    size_t room = 8192 + v->n;
+    size_t pages = 20480, room = pages + v->n, n = 1024 * (size_t)v->s->first;
     uint8_t *at = mmap(NULL, room, PROT_NONE, MAP_PRIVATE | MAP_ANONYMOUS, -1, 0);
-    CHECK(at != MAP_FAILED && mprotect(at, 8192, PROT_READ | PROT_WRITE) == 0);
-    head.image = memcpy(at + 8192 - HEAD, v->made, HEAD);
+    CHECK(at != MAP_FAILED && mprotect(at, pages, PROT_READ | PROT_WRITE) == 0);
+    head.image = memcpy(at + pages - n, v->made, n);
     check_disk(&head);
-    for (size_t slot = 0; slot < 70; slot++)
+    for (size_t slot = 0; slot < (size_t)v->s->slots + 6; slot++)
         list_slot(&head, slot);
     for (int f = 0; f < FILES; f++) {
         find_file(&head, f);
@@ -128,8 +131,8 @@ static void own_blocks(const volume *v, int f) {
     uint16_t blocks[1600];
     own.image = guarded(v->n);
     memset(own.image, 0x5A, v->n);
-    memcpy(own.image, v->made, HEAD);
-    size_t count = sj_blocks(own.image, v->n, 9 * (size_t)f, blocks, 1600).count;
+    memcpy(own.image, v->made, 1024 * (size_t)v->s->first);
+    size_t count = sj_blocks(own.image, v->n, file_slot(v, f), blocks, 1600).count;
     for (size_t k = 0; k < count; k++)
         memcpy(own.image + 1024 * (size_t)blocks[k], v->made + 1024 * (size_t)blocks[k], 1024);
     download(&own, f, 1000);
@@ -144,7 +147,7 @@ static void other_call(const volume *v) {
         check_disk(v);
         break;
     case 1:
-        list_slot(v, next_random() % 70);
+        list_slot(v, next_random() % ((unsigned)v->s->slots + 6));
         break;
     case 2:
         find_file(v, f);
@@ -181,7 +184,7 @@ static void whole_disk(const volume *v) {
     uint8_t out[1] = {9};
     check_disk(v);
     head_only(v);
-    for (size_t slot = 0; slot < 70; slot++)
+    for (size_t slot = 0; slot < (size_t)v->s->slots + 6; slot++)
         list_slot(v, slot);
     list_slot(v, SIZE_MAX - 1);
     for (int f = 0; f < FILES; f++) {
@@ -208,9 +211,9 @@ static void whole_disk(const volume *v) {
 /* An accepted image: as many slots list as the check counted, each name is found in its slot, each file ends at its length and has the
  * blocks that it needs, and these and the free ones make the data area. */
 static void read_accepted(const uint8_t *image, size_t n, const sj_checked *c) {
-    size_t files = 0, blocks = 0, letters = c->kind == 900 ? 10 : 12;
+    size_t files = 0, blocks = 0, letters = c->kind == 900 ? 10 : 12, slots = c->kind == 3000 ? 512 : 64;
     uint16_t own[1600];
-    for (size_t slot = 0; slot < 64; slot++) {
+    for (size_t slot = 0; slot < slots; slot++) {
         sj_listed l = sj_list(image, n, slot);
         CHECK(l.refusal == 0 || l.refusal == 10);
         if (l.refusal)
@@ -223,7 +226,7 @@ static void read_accepted(const uint8_t *image, size_t n, const sj_checked *c) {
         CHECK(f.refusal == 0 && f.slot == slot);
         CHECK(sj_page(image, n, slot, l.length, NULL, 0).end && !sj_page(image, n, slot, 0, NULL, 0).end);
     }
-    CHECK(files == c->files && blocks + c->free == (c->density ? 1595 : 796));
+    CHECK(files == c->files && blocks + c->free == (c->kind == 3000 ? 1583 : c->density ? 1595 : 796));
 }
 
 static void same_found(sj_found f, const sj_checked *c) { CHECK(f.refusal == c->refusal && f.place == c->place && f.slot == 0); }
@@ -235,7 +238,7 @@ static void same_paged(sj_paged p, const sj_checked *c) { CHECK(p.refusal == c->
 /* A refused image: every call gives the check's refusal and place and nothing else, and keeps the output, whatever else it was lent. */
 static void read_refused(const uint8_t *image, size_t n, const sj_checked *c) {
     static const uint8_t nothing[12];
-    size_t slot = next_random() % 2 ? 9 * (next_random() % FILES) : next_random() % 70;
+    size_t slot = next_random() % 2 ? 9 * (next_random() % FILES) : next_random() % 518;
     size_t offset = next_random() % 2 ? 0 : next_random() % 5000, room = next_random() % 64;
     size_t named = next_random() % 4 ? 10 + 2 * (next_random() % 2) : next_random() % 14;
     char name[14];
@@ -293,7 +296,7 @@ static bool answers(volume *v, uint32_t refusal, size_t place) {
     return c.refusal == refusal && c.place == place;
 }
 
-static size_t later(int f, int g) { return 9 * (size_t)(f > g ? f : g); }
+static size_t later(const volume *v, int f, int g) { return file_slot(v, f > g ? f : g); }
 
 /* 5: of two files of one name the later slot is the place, whichever has its own name; their types don't matter, and empty slots have none. */
 static void names_twice(volume *v) {
@@ -301,12 +304,12 @@ static void names_twice(volume *v) {
         for (int g = 0; g < FILES; g++) {
             memmove(entry(v, g), entry(v, f), 16);
             entry(v, g)[16] += (uint8_t)(f % 2);
-            CHECK(answers(v, f == g ? 0 : 5, f == g ? 0 : later(f, g)));
+            CHECK(answers(v, f == g ? 0 : 5, f == g ? 0 : later(v, f, g)));
         }
     memcpy(entry(v, 2), entry(v, 5), 16);
     memcpy(entry(v, 4), entry(v, 5), 16);
-    CHECK(answers(v, 5, 9 * 4));
-    memcpy(v->image + 24, entry(v, 3), 16);
+    CHECK(answers(v, 5, file_slot(v, 4)));
+    memcpy(v->image + slot_at(v->s, 1), entry(v, 3), 16);
     CHECK(answers(v, 0, 0));
 }
 
@@ -323,13 +326,13 @@ static unsigned stray_value(const shape *s, int k) {
 static void chains_left(volume *v) {
     for (int f = 0; f < FILES; f++) {
         set_start(entry(v, f), v->s->end);
-        CHECK(answers(v, 6, 9 * (size_t)f));
+        CHECK(answers(v, 6, file_slot(v, f)));
         for (int k = 0; k < STRAY_VALUES; k++) {
             set_start(entry(v, f), stray_value(v->s, k));
-            CHECK(answers(v, 6, 9 * (size_t)f));
+            CHECK(answers(v, 6, file_slot(v, f)));
             for (size_t i = 0; i + 1 < blocks_for(FILE_LENGTHS[f]); i++) {
                 set_value(v->image, v->chains[f][i], stray_value(v->s, k));
-                CHECK(answers(v, 6, 9 * (size_t)f));
+                CHECK(answers(v, 6, file_slot(v, f)));
             }
         }
     }
@@ -341,15 +344,15 @@ static void ends_misplaced(volume *v) {
         unsigned last = last_block(v, f), links[3] = {last, (unsigned)v->s->first, (unsigned)v->s->blocks - 1};
         for (int k = 0; k < STRAY_VALUES; k++) {
             set_value(v->image, last, stray_value(v->s, k));
-            CHECK(answers(v, 7, 9 * (size_t)f));
+            CHECK(answers(v, 7, file_slot(v, f)));
         }
         for (int k = 0; k < 3; k++) {
             set_value(v->image, last, links[k]);
-            CHECK(answers(v, 7, 9 * (size_t)f));
+            CHECK(answers(v, 7, file_slot(v, f)));
         }
         for (size_t i = 0; i + 1 < blocks_for(FILE_LENGTHS[f]); i++) {
             set_value(v->image, v->chains[f][i], v->s->end);
-            CHECK(answers(v, 7, 9 * (size_t)f));
+            CHECK(answers(v, 7, file_slot(v, f)));
         }
     }
 }
@@ -360,15 +363,15 @@ static void lengths_misfit(volume *v) {
         size_t full = 1024 * blocks_for(FILE_LENGTHS[f]), lengths[4] = {full + 1, 16777215, full, full - 1023};
         for (int k = 0; k < 4; k++) {
             set_length(entry(v, f), lengths[k]);
-            CHECK(answers(v, k < 2 ? 7 : 0, k < 2 ? 9 * (size_t)f : 0));
+            CHECK(answers(v, k < 2 ? 7 : 0, k < 2 ? file_slot(v, f) : 0));
         }
         if (full > 1024) {
             set_length(entry(v, f), full - 1024);
-            CHECK(answers(v, 7, 9 * (size_t)f));
+            CHECK(answers(v, 7, file_slot(v, f)));
         }
         set_length(entry(v, f), 16777215);
         set_value(v->image, last_block(v, f), v->chains[f][0]); /* round and round */
-        CHECK(answers(v, 7, 9 * (size_t)f));
+        CHECK(answers(v, 7, file_slot(v, f)));
     }
 }
 
@@ -380,16 +383,16 @@ static void blocks_shared(volume *v) {
             for (size_t i = 0; i < count && f != g; i++) {
                 set_start(entry(v, g), v->chains[f][i]);
                 set_length(entry(v, g), 1024 * (count - i));
-                CHECK(answers(v, 8, later(f, g)));
+                CHECK(answers(v, 8, later(v, f, g)));
             }
             if (f != g && own > 1) {
                 set_value(v->image, v->chains[g][own - 2], last_block(v, f));
-                CHECK(answers(v, 8, later(f, g)));
+                CHECK(answers(v, 8, later(v, f, g)));
             }
         }
     for (int g = 2; g < FILES; g += 2)
         memcpy(entry(v, g) + 17, entry(v, 1) + 17, 5);
-    CHECK(answers(v, 8, 9 * 2));
+    CHECK(answers(v, 8, file_slot(v, 2)));
 }
 
 /* ---- two faults at once */
@@ -400,7 +403,9 @@ static size_t make_fault(volume *v, uint32_t number, int f) {
     unsigned system = (unsigned)(f % v->s->first), stray = scattered(v->s, v->used + (size_t)f);
     switch (number) {
     case 2:
-        e[22] = 1;
+        if (v->s->kind == 3000)
+            v->image[16] = 0; /* the first directory counts */
+        v->image[24 * 9 * f + 22] = 1;
         return 0;
     case 3:
         set_value(v->image, system, 16385);
@@ -424,7 +429,7 @@ static size_t make_fault(volume *v, uint32_t number, int f) {
         set_value(v->image, stray, v->s->end);
         return stray;
     }
-    return 9 * (size_t)f;
+    return file_slot(v, f);
 }
 
 /* The number that is asked first is given; 6 and 7 are asked together, and of two alike the lower place is given. */
@@ -434,13 +439,13 @@ static void both_faults(volume *v, uint32_t a, int f, uint32_t b, int g) {
     CHECK(answers(v, first ? a : b, first ? at : other));
 }
 
-/* Every two numbers with every two files, and every one alone; on S900 disks there is no 3. */
+/* Every two numbers with every two files, and every one alone; on S900 disks there is no 3, and 2 on S3000 disks is another kind's. */
 static void two_faults(volume *v) {
     for (uint32_t a = 2; a <= 9; a++)
         for (uint32_t b = a; b <= 9; b++)
             for (int f = 1; f < FILES; f++)
                 for (int g = 1; g < FILES; g++)
-                    if ((f != g || a == b) && (v->s->kind == 1000 || (a != 3 && b != 3)))
+                    if ((f != g || a == b) && (v->s->kind != 900 || (a != 3 && b != 3)))
                         both_faults(v, a, f, b, g);
 }
 
@@ -485,12 +490,14 @@ static void legal_noise(const shape *s) {
     size_t n = 1024 * (size_t)s->blocks;
     uint8_t *image = guarded(n);
     fill(image, n);
+    image[16] = 1;
     sj_checked c = read_any(image, n);
     CHECK(c.refusal == 2 && c.place == 0);
     for (int slot = 0; slot < 64; slot++) {
         image[24 * slot + 22] = 0;
         image[24 * slot + 23] = s->kind == 900 ? 0 : 3;
     }
+    image[16] = s->kind == 3000 ? 255 : 1; /* asked before the identities */
     c = read_any(image, n);
     CHECK(c.refusal == (s->kind == 900 ? 4u : 3u));
     for (int block = 0; block < s->first; block++)
@@ -507,14 +514,14 @@ static void noise(void) {
         CHECK(read_any(image, n).refusal == 1);
         release(image, n);
     }
-    for (int k = 0; k < 12; k++)
-        legal_noise(&SHAPES[k % 4]);
+    for (int k = 0; k < 3 * KINDS; k++)
+        legal_noise(&SHAPES[k % KINDS]);
 }
 
 int main(void) {
-    for (int k = 0; k < 8; k++) {
+    for (int k = 0; k < 2 * KINDS; k++) {
         volume v;
-        make_volume(&v, &SHAPES[k % 4], k >= 4);
+        make_volume(&v, &SHAPES[k % KINDS], k >= KINDS);
         whole_disk(&v);
         names_twice(&v);
         chains_left(&v);

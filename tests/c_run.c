@@ -27,9 +27,9 @@ static void make_entry(const shape *s, uint8_t *e) {
     for (int i = 0; i < ENTRY; i++)
         e[i] = (uint8_t)next_random();
     e[0] = r % 97 == 0 ? (uint8_t)(5 + r % 251) : (uint8_t)(r % 5);
-    e[1] = (uint8_t)((s->kind == 900 ? 'A' : 'a') + next_random() % 27);
+    e[1] = (uint8_t)(first_type(s) + next_random() % 27);
     if (e[0] < 2) {
-        set_number(e + 4, 4, next_random() % 8);
+        set_number(e + 4, 4, next_random() % 30 ? next_random() % 8 : 505 + next_random() % 8);
         set_number(e + 8, 4, next_random() % 3 ? 0 : next_random() % 4000);
         return;
     }
@@ -153,7 +153,7 @@ static void run_damaged(const shape *s) {
 
 int main(void) {
     make_pool();
-    for (int k = 0; k < 4; k++) {
+    for (int k = 0; k < KINDS; k++) {
         run_many(&SHAPES[k]);
         run_damaged(&SHAPES[k]);
     }

@@ -7,7 +7,7 @@
 typedef struct {
     volume v;
     uint8_t *due; /* the image afterwards */
-    uint8_t report[64];
+    uint8_t report[SLOTS];
 } wreck;
 
 /* ---- what is due, told by hand */
@@ -15,12 +15,12 @@ typedef struct {
 /* Nothing is lost of the image as it stands. */
 static void lose_nothing(wreck *w) {
     memcpy(w->due, w->v.image, HEAD);
-    for (int slot = 0; slot < 64; slot++)
-        w->report[slot] = w->v.image[24 * slot + 16] != 0;
+    for (int slot = 0; slot < w->v.s->slots; slot++)
+        w->report[slot] = w->v.image[slot_at(w->v.s, slot) + 16] != 0;
 }
 
 static void lose_slot(wreck *w, int slot, uint8_t number) {
-    memset(w->due + 24 * slot, 0, 22);
+    memset(w->due + slot_at(w->v.s, slot), 0, 22);
     w->report[slot] = number;
 }
 
@@ -33,7 +33,7 @@ static void free_blocks(wreck *w, int f, size_t count) {
 static void free_chain(wreck *w, int f) { free_blocks(w, f, blocks_for(FILE_LENGTHS[f])); }
 
 static void lose_file(wreck *w, int f, uint8_t number) {
-    lose_slot(w, 9 * f, number);
+    lose_slot(w, slot_of_file(&w->v, f), number);
     free_chain(w, f);
 }
 
@@ -42,13 +42,13 @@ static void lose_file(wreck *w, int f, uint8_t number) {
 static size_t length_of(const uint8_t *e) { return e[17] + 256u * e[18] + 65536u * e[19]; }
 
 static bool well_formed(const shape *s, const uint8_t *e) {
-    uint8_t first = s->kind == 900 ? 'A' : 'a';
     for (int i = 0; i < 16; i++) {
-        bool letter = s->kind == 900 ? e[i] >= 32 && e[i] <= 126 : e[i] <= 40, filler = e[i] == (s->kind == 900 ? 0 : 32);
-        if (i < s->letters ? !letter : !filler)
+        bool letter = s->kind == 900 ? e[i] >= 32 && e[i] <= 126 : e[i] <= 40;
+        if (i < s->letters ? !letter : e[i] != padding(s, i))
             return false;
     }
-    return e[16] >= first && e[16] < first + 26 && length_of(e) > 0;
+    bool own = s->kind != 3000 || (e[22] == 0 && e[23] == 12);
+    return e[16] >= first_type(s) && e[16] < first_type(s) + 26 && length_of(e) > 0 && own;
 }
 
 /* A slot's blocks by the map of the image, as far as there is room for them; 6 or 7 if its chain has a fault. */
@@ -67,13 +67,13 @@ static uint8_t walk(const volume *v, const uint8_t *e, unsigned chain[1600]) {
 
 /* What the report has to say of a slot, where it has said so of the lower ones; `taken` are the blocks of those that are kept. */
 static uint8_t reason(const wreck *w, int slot, const bool *taken, unsigned chain[1600]) {
-    const uint8_t *e = w->v.image + 24 * slot;
+    const uint8_t *e = w->v.image + slot_at(w->v.s, slot);
     if (e[16] == 0)
         return 0;
     if (!well_formed(w->v.s, e))
         return 4;
     for (int lower = 0; lower < slot; lower++)
-        if (w->report[lower] == 1 && memcmp(w->v.image + 24 * lower, e, 16) == 0)
+        if (w->report[lower] == 1 && memcmp(w->v.image + slot_at(w->v.s, lower), e, 16) == 0)
             return 5;
     uint8_t fault = walk(&w->v, e, chain);
     for (size_t k = 0; !fault && k < blocks_for(length_of(e)); k++)
@@ -85,18 +85,18 @@ static void lose_by_rules(wreck *w) {
     const shape *s = w->v.s;
     bool taken[1600] = {false};
     memcpy(w->due, w->v.image, HEAD);
-    for (int slot = 0; slot < 64; slot++) {
+    for (int slot = 0; slot < s->slots; slot++) {
         unsigned chain[1600];
         uint8_t said = reason(w, slot, taken, chain);
         w->report[slot] = said;
         if (said > 1)
             lose_slot(w, slot, said);
-        for (size_t k = 0; said == 1 && k < blocks_for(length_of(w->v.image + 24 * slot)); k++)
+        for (size_t k = 0; said == 1 && k < blocks_for(length_of(w->v.image + slot_at(s, slot))); k++)
             taken[chain[k]] = true;
     }
     for (unsigned block = 0; block < (unsigned)s->blocks; block++) {
         bool data = block >= (unsigned)s->first;
-        if (data ? !taken[block] : s->kind == 1000)
+        if (data ? !taken[block] : s->kind != 900)
             set_value(w->due, block, data ? 0 : 16384);
     }
 }
@@ -106,11 +106,12 @@ static void lose_by_rules(wreck *w) {
 /* One run with a report of so much room, at a page that traps: its answer, its report with all past that kept, and the whole image. */
 static void run(wreck *w, const uint8_t *report, size_t count, size_t room) {
     uint8_t *lent = edge(0, room);
+    size_t slots = (size_t)w->v.s->slots;
     memset(lent, 0xA5, room);
     sj_counted r = sj_salvage(w->v.image, w->v.n, lent, room);
     CHECK(r.refusal == 0 && r.place == 0 && r.count == count);
-    CHECK(memcmp(lent, report, 64) == 0);
-    for (size_t i = 64; i < room; i++)
+    CHECK(memcmp(lent, report, slots) == 0);
+    for (size_t i = slots; i < room; i++)
         CHECK(lent[i] == 0xA5);
     CHECK(memcmp(w->due, w->v.image, w->v.n) == 0);
 }
@@ -118,7 +119,7 @@ static void run(wreck *w, const uint8_t *report, size_t count, size_t room) {
 /* What a slot pages is what its chain's blocks hold. */
 static void reads(const wreck *w, int slot) {
     unsigned chain[1600];
-    const uint8_t *e = w->v.image + 24 * slot;
+    const uint8_t *e = w->v.image + slot_at(w->v.s, slot);
     size_t length = length_of(e);
     uint8_t *out = edge(2, length);
     CHECK(walk(&w->v, e, chain) == 0);
@@ -130,30 +131,32 @@ static void reads(const wreck *w, int slot) {
 
 /* The image as it stands is mended to what is due and accepted then; a second run finds nothing to mend. Then the volume is made whole. */
 static void mends(wreck *w) {
-    static const size_t rooms[] = {64, 64, 65, 200, 4096};
+    static const size_t more[] = {0, 0, 1, 136, 4032};
     size_t others = 0, files = 0;
-    uint8_t kept[64];
+    int slots = w->v.s->slots;
+    uint8_t kept[SLOTS];
     for (unsigned block = 0; block < (unsigned)w->v.s->blocks; block++)
         others += get_value(w->due, block) != get_value(w->v.image, block);
-    for (int slot = 0; slot < 64; slot++)
+    for (int slot = 0; slot < slots; slot++)
         files += kept[slot] = w->report[slot] == 1;
-    run(w, w->report, others, rooms[next_random() % 5]);
+    run(w, w->report, others, (size_t)slots + more[next_random() % 5]);
     sj_checked c = sj_check(w->v.image, w->v.n);
     CHECK(c.refusal == 0 && c.files == files && c.kind == (uint32_t)w->v.s->kind && c.density == (w->v.s->blocks == 1600));
-    for (int slot = next_random() % 4 ? 64 : 0; slot < 64; slot++)
+    for (int slot = next_random() % 4 ? slots : 0; slot < slots; slot++)
         if (kept[slot])
             reads(w, slot);
-    run(w, kept, 0, 64);
+    run(w, kept, 0, (size_t)slots);
     memcpy(w->v.image, w->v.made, HEAD);
 }
 
 /* The same where what is due was told by hand: the rules tell it alike. */
 static void mends_as_told(wreck *w) {
-    uint8_t head[HEAD], report[64];
+    size_t slots = (size_t)w->v.s->slots;
+    uint8_t head[HEAD], report[SLOTS];
     memcpy(head, w->due, HEAD);
-    memcpy(report, w->report, 64);
+    memcpy(report, w->report, slots);
     lose_by_rules(w);
-    CHECK(memcmp(head, w->due, HEAD) == 0 && memcmp(report, w->report, 64) == 0);
+    CHECK(memcmp(head, w->due, HEAD) == 0 && memcmp(report, w->report, slots) == 0);
     mends(w);
 }
 
@@ -179,11 +182,13 @@ static void set_length(uint8_t *e, size_t length) {
     e[19] = (uint8_t)(length >> 16);
 }
 
-/* 4: a type that is none, the other kind's, a byte of the name, one after it, a length of 0. */
+/* 4: a type that is none, another kind's, a byte of the name, one after it, a length of 0; an S3000's identity, which is kept. */
 static void malformed(wreck *w) {
-    for (int k = 0; k < 5 * FILES; k++) {
-        uint8_t *e = entry(&w->v, k / 5);
-        switch (k % 5) {
+    for (int k = 0; k < 6 * FILES; k++) {
+        uint8_t *e = entry(&w->v, k / 6);
+        if (k % 6 == 5 && w->v.s->kind != 3000)
+            continue;
+        switch (k % 6) {
         case 0:
             e[16] = 1;
             break;
@@ -196,10 +201,13 @@ static void malformed(wreck *w) {
         case 3:
             e[(unsigned)w->v.s->letters + next_random() % (16 - (unsigned)w->v.s->letters)] ^= 1;
             break;
-        default:
+        case 4:
             set_length(e, 0);
+            break;
+        default:
+            e[22 + k / 6 % 2] ^= 15;
         }
-        loses_file(w, k / 5, 4);
+        loses_file(w, k / 6, 4);
     }
 }
 
@@ -280,7 +288,7 @@ static void shared_blocks(wreck *w) {
                 set_length(entry(&w->v, g), 1024 * (count - i));
                 lose_nothing(w);
                 free_chain(w, g);
-                lose_slot(w, 9 * (f > g ? f : g), 8);
+                lose_slot(w, slot_of_file(&w->v, f > g ? f : g), 8);
                 if (g < f)
                     free_blocks(w, f, i);
                 mends_as_told(w);
@@ -288,7 +296,7 @@ static void shared_blocks(wreck *w) {
         }
 }
 
-/* 9: blocks on no chain are freed, those of a slot made empty too, which keeps its bytes. 3: an S1000's system values are set, an S900's kept. */
+/* 9: blocks on no chain are freed, those of a slot made empty too, which keeps its bytes. 3: system values are set, an S900's kept. */
 static void strays(wreck *w) {
     const shape *s = w->v.s;
     unsigned values[] = {1, 256, (unsigned)s->first, 16384, s->end, 65535};
@@ -311,7 +319,7 @@ static void strays(wreck *w) {
         set_value(w->v.image, block, block % 2 ? 16385 : 0);
         set_value(w->v.image, 0, 64);
         lose_nothing(w);
-        for (unsigned b = 0; s->kind == 1000 && b <= block; b++)
+        for (unsigned b = 0; s->kind != 900 && b <= block; b++)
             set_value(w->due, b, 16384);
         mends_as_told(w);
     }
@@ -383,7 +391,7 @@ static void chains_of_dropped(wreck *w) {
         memcpy(entry(&w->v, h) + 17, entry(&w->v, f) + 17, 5);
         spoil(w, numbers[k % 3], f);
         lose_nothing(w);
-        lose_slot(w, 9 * f, numbers[k % 3]);
+        lose_slot(w, slot_of_file(&w->v, f), numbers[k % 3]);
         free_chain(w, g);
         lose_file(w, h, 8);
         mends_as_told(w);
@@ -398,38 +406,44 @@ static void accepted(wreck *w) {
     CHECK(memcmp(w->v.image, w->v.made, w->v.n) == 0);
 }
 
-/* Every slot is used and none well formed, every map value wrong: a disk without files is left. */
+/* Every slot is used and none well formed, every map value wrong: a disk without files is left. 255 in slot 0 would tell another kind. */
 static void nothing_kept(wreck *w) {
     const shape *s = w->v.s;
-    for (int i = 0; i < 1536; i++)
-        if (i % 24 < 22)
-            w->v.image[i] = 255;
+    for (int slot = 0; slot < s->slots; slot++)
+        memset(w->v.image + slot_at(s, slot), 254, 22);
     memset(w->v.image + 1536, 255, 2 * (size_t)s->blocks);
     lose_nothing(w);
-    for (int slot = 0; slot < 64; slot++)
+    for (int slot = 0; slot < s->slots; slot++)
         lose_slot(w, slot, 4);
     for (unsigned block = s->kind == 900 ? (unsigned)s->first : 0; block < (unsigned)s->blocks; block++)
         set_value(w->due, block, block < (unsigned)s->first ? 16384 : 0);
     mends_as_told(w);
 }
 
-/* Noise in directory and map but for the identities. Every other slot has a file's name and type, some its length and start too, so that every
- * rule is asked. */
+/* Noise in the directory in use and the map but for the identities. Every other slot has a file's name and type, some its length and start too, so
+ * that every rule is asked. */
 static void noise(wreck *w) {
+    const shape *s = w->v.s;
     for (int turn = 0; turn < 20; turn++) {
-        for (int i = 0; i < 1536 + 2 * w->v.s->blocks; i++)
-            if (i >= 1536 || i % 24 < 22)
-                w->v.image[i] = (uint8_t)next_random();
-        for (int slot = turn % 2; slot < 64; slot += 2)
-            memcpy(w->v.image + 24 * slot, w->v.made + 24 * 9 * (next_random() % FILES), next_random() % 2 ? 17 : 22);
+        for (int i = 0; i < 24 * s->slots; i++)
+            if (i % 24 < 22)
+                w->v.image[s->directory + i] = (uint8_t)next_random();
+        for (int i = 1536; i < 1536 + 2 * s->blocks; i++)
+            w->v.image[i] = (uint8_t)next_random();
+        for (int slot = turn % 2; slot < s->slots; slot += 2) {
+            int f = (int)(next_random() % FILES);
+            memcpy(w->v.image + slot_at(s, slot), w->v.made + slot_at(s, slot_of_file(&w->v, f)), next_random() % 2 ? 17 : 24);
+        }
+        if (s->kind != 3000 && w->v.image[16] == 255)
+            w->v.image[16] = 1; /* 255 would tell another kind */
         lose_by_rules(w);
         mends(w);
     }
 }
 
-/* Whether all identities are of the kind. */
+/* Whether all identities are of the kind; an S3000 disk isn't told by them. */
 static bool known(const volume *v) {
-    for (int slot = 0; slot < 64; slot++)
+    for (int slot = 0; v->s->kind != 3000 && slot < 64; slot++)
         if (v->image[24 * slot + 22] != 0 || v->image[24 * slot + 23] != (v->s->kind == 900 ? 0 : 3))
             return false;
     return true;
@@ -464,42 +478,45 @@ static void random_damage(wreck *w) {
             continue;
         }
         lose_by_rules(w);
-        for (int slot = 0; slot < 64; slot++)
+        for (int slot = 0; slot < w->v.s->slots; slot++)
             met[w->report[slot]]++;
         mends(w);
     }
     for (int number = 0; number < 9; number++)
         CHECK(number == 2 || number == 3 ? met[number] == 0 : met[number] >= 100);
-    CHECK(unknown >= 10);
+    CHECK(w->v.s->kind == 3000 ? unknown == 0 : unknown >= 10);
 }
 
 /* ---- refusals */
 
 /* 1, then 2, then 21, whatever else is wrong. */
 static void refusals(wreck *w) {
-    static const size_t rooms[] = {0, 1, 63, 64, 100};
+    size_t slots = (size_t)w->v.s->slots, rooms[] = {0, 1, 63, slots - 1, slots, slots + 36};
+    uint8_t told = w->v.image[16];
     spoil(w, 4, 3);
-    for (int k = 0; k < 5; k++) {
+    for (int k = 0; k < 6; k++) {
         refused(w->v.image, w->v.n - 1, rooms[k], 1);
         refused(w->v.image + 1, w->v.n - 1, rooms[k], 1);
         refused(w->v.image, HEAD, rooms[k], 1);
         refused(NULL, 0, rooms[k], 1);
-        if (rooms[k] < 64)
+        if (rooms[k] < slots)
             refused(w->v.image, w->v.n, rooms[k], 21);
+        w->v.image[16] = w->v.s->kind == 3000 ? 1 : told; /* the first directory counts */
         for (int slot = 0; slot < 64; slot += 21) {
             w->v.image[24 * slot + 23] ^= 3;
             refused(w->v.image, w->v.n, rooms[k], 2);
             w->v.image[24 * slot + 23] ^= 3;
         }
+        w->v.image[16] = told;
     }
     CHECK(memcmp(w->v.image + HEAD, w->v.made + HEAD, w->v.n - HEAD) == 0);
     loses_file(w, 3, 4);
 }
 
 int main(void) {
-    for (int k = 0; k < 8; k++) {
+    for (int k = 0; k < 2 * KINDS; k++) {
         wreck w;
-        make_volume(&w.v, &SHAPES[k % 4], k >= 4);
+        make_volume(&w.v, &SHAPES[k % KINDS], k >= KINDS);
         w.due = malloc(w.v.n);
         CHECK(w.due);
         memcpy(w.due, w.v.made, w.v.n);

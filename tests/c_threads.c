@@ -11,7 +11,7 @@ static uint8_t *shared, contents[FILES][LONGEST];
 static const shape *const S = &SHAPES[3];
 
 /* For each kind a disk without files, and the same after `change` alone. */
-static uint8_t *blank[4], *changed[4];
+static uint8_t *blank[KINDS], *changed[KINDS];
 
 static pthread_barrier_t begin;
 
@@ -53,7 +53,7 @@ static void read_all(size_t step) {
 
 /* Puts and removals, one of them refused, on an image that nobody else has. */
 static void change(const shape *s, uint8_t *image) {
-    uint8_t name[12], type = s->kind == 900 ? 'S' : 's';
+    uint8_t name[12], type = s->type;
     for (int k = 0; k < FILES; k++) {
         name_of(s, (char)('A' + k), name);
         CHECK(sj_put(image, bytes_of(s), name, (size_t)s->letters, type, contents[k], length_of(k)).slot == (size_t)k);
@@ -66,15 +66,15 @@ static void change(const shape *s, uint8_t *image) {
 }
 
 static void *work(void *given) {
-    size_t number = (size_t)(uintptr_t)given, n = bytes_of(&SHAPES[number % 4]);
+    size_t number = (size_t)(uintptr_t)given, n = bytes_of(&SHAPES[number % KINDS]);
     uint8_t *own = malloc(n);
     CHECK(own);
     pthread_barrier_wait(&begin);
     for (int round = 0; round < ROUNDS; round++) {
         read_all(500 + 397 * number);
-        memcpy(own, blank[number % 4], n);
-        change(&SHAPES[number % 4], own);
-        CHECK(memcmp(own, changed[number % 4], n) == 0);
+        memcpy(own, blank[number % KINDS], n);
+        change(&SHAPES[number % KINDS], own);
+        CHECK(memcmp(own, changed[number % KINDS], n) == 0);
     }
     free(own);
     return NULL;
@@ -100,7 +100,7 @@ static void make_shared(void) {
 int main(void) {
     pthread_t threads[THREADS];
     make_shared();
-    for (int k = 0; k < 4; k++) {
+    for (int k = 0; k < KINDS; k++) {
         size_t n = bytes_of(&SHAPES[k]);
         blank[k] = malloc(n);
         changed[k] = malloc(n);
@@ -114,7 +114,7 @@ int main(void) {
         CHECK(pthread_create(&threads[k], NULL, work, (void *)k) == 0);
     for (int k = 0; k < THREADS; k++)
         CHECK(pthread_join(threads[k], NULL) == 0);
-    for (int k = 0; k < 4; k++) {
+    for (int k = 0; k < KINDS; k++) {
         free(blank[k]);
         free(changed[k]);
     }

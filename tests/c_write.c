@@ -16,14 +16,14 @@ typedef struct {
     size_t n;
     uint8_t *image, *due; /* due: the image that the calls so far have to leave */
     uint8_t head[HEAD];   /* as it was before the first call */
-    file files[64];
+    file files[SLOTS];
 } disk;
 
 /* ---- the record */
 
 static size_t free_blocks(const disk *d) {
     size_t free = (size_t)(d->s->blocks - d->s->first);
-    for (int k = 0; k < 64; k++)
+    for (int k = 0; k < d->s->slots; k++)
         if (d->files[k].used)
             free -= blocks_for(d->files[k].length);
     return free;
@@ -34,24 +34,24 @@ static bool legal_name(const disk *d, const char *name) {
     return strlen(name) == (size_t)d->s->letters && (d->s->kind == 900 || !strpbrk(name, "!@[`{"));
 }
 
-/* A name as the disk keeps it: an S1000's in capitals. */
+/* A name as the disk keeps it: in capitals, but an S900's. */
 static void keep_name(const disk *d, const char *name, char *kept) {
     size_t length = strlen(name);
     for (size_t i = 0; i <= length; i++)
-        kept[i] = d->s->kind == 1000 && name[i] >= 'a' && name[i] <= 'z' ? (char)(name[i] - 32) : name[i];
+        kept[i] = d->s->kind != 900 && name[i] >= 'a' && name[i] <= 'z' ? (char)(name[i] - 32) : name[i];
 }
 
 static int slot_of(const disk *d, const char *name) {
     char kept[13];
     keep_name(d, name, kept);
-    for (int k = 0; k < 64; k++)
+    for (int k = 0; k < d->s->slots; k++)
         if (d->files[k].used && strcmp(d->files[k].name, kept) == 0)
             return k;
     return -1;
 }
 
 static int empty_slot(const disk *d) {
-    for (int k = 0; k < 64; k++)
+    for (int k = 0; k < d->s->slots; k++)
         if (!d->files[k].used)
             return k;
     return -1;
@@ -77,19 +77,20 @@ static void due_put(disk *d, int slot) {
         if (get_value(d->due, block) == 0)
             blocks[count++] = block;
     add_file(d->due, d->s, slot, f->name, blocks, f->content, f->length);
-    d->due[24 * slot + 16] = f->type;
+    d->due[slot_at(d->s, slot) + 16] = f->type;
     memset(d->due + 1024 * (size_t)(blocks[whole - 1] + 1) - (1024 * whole - f->length), 0, 1024 * whole - f->length);
 }
 
 /* The image that a removal has to leave: the slot is zeros but for its identity, the chain's blocks are free. */
 static void due_remove(disk *d, int slot) {
-    unsigned block = d->due[24 * slot + 20] + 256u * d->due[24 * slot + 21];
+    uint8_t *e = d->due + slot_at(d->s, slot);
+    unsigned block = e[20] + 256u * e[21];
     for (size_t k = blocks_for(d->files[slot].length); k > 0; k--) {
         unsigned next = get_value(d->due, block);
         set_value(d->due, block, 0);
         block = next;
     }
-    memset(d->due + 24 * slot, 0, 22);
+    memset(e, 0, 22);
 }
 
 /* ---- the calls, each held to the record */
@@ -97,7 +98,7 @@ static void due_remove(disk *d, int slot) {
 static void same_image(const disk *d) { CHECK(memcmp(d->due, d->image, d->n) == 0); }
 
 static void put(disk *d, const char *name, uint8_t type, size_t length) {
-    bool legal = legal_name(d, name) && (d->s->kind == 900 ? type >= 'A' && type <= 'Z' : type >= 'a' && type <= 'z');
+    bool legal = legal_name(d, name) && type >= first_type(d->s) && type < first_type(d->s) + 26;
     uint8_t *content = edge(0, length);
     for (size_t i = 0; i < length; i++)
         content[i] = (uint8_t)next_random();
@@ -139,20 +140,23 @@ static void compare_slot(const disk *d, int slot) {
     CHECK(memcmp(out, f->content, f->length) == 0 && out[f->length] == 0x5A && out[f->length + 4] == 0x5A);
 }
 
-static void compare(const disk *d) {
+/* Every so many slots, from any on, and the check's counts. */
+static void compare_some(const disk *d, int step) {
     size_t count = 0;
-    for (int slot = 0; slot < 64; slot++) {
-        count += d->files[slot].used;
+    for (int slot = (int)(next_random() % (unsigned)step); slot < d->s->slots; slot += step)
         compare_slot(d, slot);
-    }
+    for (int slot = 0; slot < d->s->slots; slot++)
+        count += d->files[slot].used;
     sj_checked c = sj_check(d->image, d->n);
     CHECK(c.refusal == 0 && c.files == count && c.free == free_blocks(d));
     CHECK(c.kind == (uint32_t)d->s->kind && c.density == (d->s->blocks == 1600));
 }
 
+static void compare(const disk *d) { compare_some(d, 1); }
+
 /* Names and contents of nothing may be null: they are refused as illegal and as empty, and the image is kept. */
 static void null_arguments(disk *d) {
-    const uint8_t type = d->s->kind == 900 ? 'S' : 's', *name = (const uint8_t *)"NULL        ", content[1] = {1};
+    const uint8_t type = d->s->type, *name = (const uint8_t *)"NULL        ", content[1] = {1};
     size_t letters = (size_t)d->s->letters;
     sj_found f = sj_put(d->image, d->n, NULL, 0, type, content, 1);
     CHECK(f.refusal == 11 && f.place == 0 && f.slot == 0);
@@ -173,18 +177,19 @@ static void long_contents(disk *d) {
     uint8_t *content = guarded(most);
     const uint8_t *name = (const uint8_t *)"LONG        ";
     for (size_t length = most - 1; length <= most; length++) {
-        sj_found f = sj_put(d->image, d->n, name, (size_t)d->s->letters, d->s->kind == 900 ? 'S' : 's', content + (most - length), length);
+        sj_found f = sj_put(d->image, d->n, name, (size_t)d->s->letters, d->s->type, content + (most - length), length);
         CHECK(f.refusal == (empty_slot(d) < 0 ? 14u : 15u) && f.place == 0 && f.slot == 0);
     }
     same_image(d);
     release(content, most);
 }
 
-/* What no call writes: the map below the first data block, and all between the map and that block. */
+/* What no call writes: the map below the first data block, all between the map and the block after it, an S3000's first directory. */
 static void kept_bytes(const disk *d) {
-    size_t map_end = 1536 + 2 * (size_t)d->s->blocks, data = 1024 * (size_t)d->s->first;
+    size_t map_end = 1536 + 2 * (size_t)d->s->blocks, after = d->s->blocks == 800 ? 4096 : 5120;
     CHECK(memcmp(d->head + 1536, d->image + 1536, 2 * (size_t)d->s->first) == 0);
-    CHECK(memcmp(d->head + map_end, d->image + map_end, data - map_end) == 0);
+    CHECK(memcmp(d->head + map_end, d->image + map_end, after - map_end) == 0);
+    CHECK(d->s->kind != 3000 || memcmp(d->head, d->image, 1536) == 0);
 }
 
 /* ---- sequences */
@@ -202,7 +207,7 @@ static void start(disk *d, const shape *s, bool files) {
         for (int f = 0; f < FILES; f++) {
             char name[13];
             snprintf(name, sizeof name, "%-*s", s->letters, FILE_NAMES[f]);
-            record_file(d, 9 * f, name, s->kind == 900 ? 'S' : 's', v.contents[f], FILE_LENGTHS[f]);
+            record_file(d, slot_of_file(&v, f), name, s->type, v.contents[f], FILE_LENGTHS[f]);
         }
         drop_volume(&v);
     } else {
@@ -222,7 +227,7 @@ static void refused_calls(disk *d) {
 
 static void finish(disk *d) {
     refused_calls(d);
-    for (int slot = 0; slot < 64; slot++)
+    for (int slot = 0; slot < d->s->slots; slot++)
         if (d->files[slot].used)
             free(d->files[slot].content);
     free(d->due);
@@ -255,7 +260,7 @@ static size_t random_length(const disk *d) {
 /* Removes files that are there: names at random are seldom those of one. */
 static void thin_out(disk *d) {
     char name[13];
-    for (int slot = 0; slot < 64; slot += 1 + (int)(next_random() % 40))
+    for (int slot = 0; slot < d->s->slots; slot += 1 + (int)(next_random() % 40))
         if (d->files[slot].used) {
             snprintf(name, sizeof name, "%s", d->files[slot].name);
             take_away(d, name);
@@ -280,7 +285,7 @@ static void page_on(const disk *d, download *on) {
         if (!p.end)
             return;
     }
-    *on = (download){.slot = (on->slot + 1) % 64};
+    *on = (download){.slot = (on->slot + 1) % d->s->slots};
 }
 
 static void sequence(const shape *s, int calls, bool files) {
@@ -293,13 +298,13 @@ static void sequence(const shape *s, int calls, bool files) {
         random_name(&d, name);
         bool filling = k % 600 < 400;
         if (next_random() % 10 < (filling ? 8u : 3u))
-            put(&d, name, (uint8_t)((s->kind == 900 ? 'A' : 'a') + next_random() % 27), random_length(&d));
+            put(&d, name, (uint8_t)(first_type(s) + next_random() % 27), random_length(&d));
         else if (next_random() % 4)
             take_away(&d, name);
         else
             thin_out(&d);
         page_on(&d, &on);
-        compare(&d);
+        compare_some(&d, s->slots / 64);
     }
     finish(&d);
 }
@@ -307,11 +312,12 @@ static void sequence(const shape *s, int calls, bool files) {
 /* Small files only, so that the directory fills: 14. */
 static void full_directory(const shape *s, bool files) {
     disk d;
+    size_t more = s->slots == 64 ? 100 : 4;
     start(&d, s, files);
-    for (int k = 0; k < 66; k++) {
+    for (int k = 0; k < s->slots + 2; k++) {
         char name[13];
         snprintf(name, sizeof name, "%c%c%*s", 'A' + k % 26, 'A' + k / 26, s->letters - 2, "");
-        put(&d, name, s->kind == 900 ? 'S' : 's', 1 + 100 * (size_t)k);
+        put(&d, name, s->type, 1 + more * (size_t)k);
     }
     CHECK(empty_slot(&d) < 0);
     finish(&d);
@@ -328,7 +334,7 @@ static void alike(const sj_checked *c, sj_found f, sj_done r) {
 static uint32_t write_refused(volume *v, uint8_t *before) {
     char name[13];
     size_t letters = (size_t)snprintf(name, sizeof name, "%-*s", v->s->letters, FILE_NAMES[next_random() % FILES]);
-    uint8_t type = v->s->kind == 900 ? 'S' : 's', *lent = at_edge(1, name, letters), *content = at_edge(0, name, letters);
+    uint8_t type = v->s->type, *lent = at_edge(1, name, letters), *content = at_edge(0, name, letters);
     memcpy(before, v->image, HEAD);
     sj_checked c = sj_check(v->image, v->n);
     if (c.refusal) {
@@ -358,11 +364,11 @@ static void refused_images(const shape *s) {
 }
 
 int main(void) {
-    for (int k = 0; k < 8; k++) {
+    for (int k = 0; k < 2 * KINDS; k++) {
         sequence(&SHAPES[k / 2], 2000, k % 2);
         full_directory(&SHAPES[k / 2], k % 2);
     }
-    for (int k = 0; k < 4; k++)
+    for (int k = 0; k < KINDS; k++)
         refused_images(&SHAPES[k]);
     CHECK(sj_put(NULL, 0, NULL, 0, 0, NULL, 0).refusal == 1);
     CHECK(sj_remove(NULL, 0, NULL, 0).refusal == 1);

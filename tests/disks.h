@@ -18,21 +18,37 @@
     } while (0)
 
 typedef struct {
-    int kind;   /* 900 or 1000 */
+    int kind;   /* 900, 1000 or 3000 */
     int blocks; /* 800 or 1,600 */
     int first;  /* first data block */
     int letters;
-    unsigned end; /* end mark */
+    unsigned end;  /* end mark */
+    int slots;     /* of the directory in use */
+    int directory; /* where that begins */
+    int apart;     /* slots from one file of a volume to the next */
+    uint8_t type;  /* of a sample */
 } shape;
 
-static const shape SHAPES[4] = {
-    {900, 800, 4, 10, 32768},
-    {900, 1600, 5, 10, 32768},
-    {1000, 800, 4, 12, 49152},
-    {1000, 1600, 5, 12, 49152},
+enum { KINDS = 5 };
+
+static const shape SHAPES[KINDS] = {
+    {900, 800, 4, 10, 32768, 64, 0, 9, 'S'},
+    {900, 1600, 5, 10, 32768, 64, 0, 9, 'S'},
+    {1000, 800, 4, 12, 49152, 64, 0, 9, 's'},
+    {1000, 1600, 5, 12, 49152, 64, 0, 9, 's'},
+    {3000, 1600, 17, 12, 49152, 512, 5120, 85, 211},
 };
 
-enum { HEAD = 5120 }; /* directory and map lie in these bytes, whatever the kind */
+enum { HEAD = 17408, SLOTS = 512 }; /* directories and map lie in these bytes, whatever the kind; no kind has more slots */
+
+/* Where a slot begins. */
+static inline size_t slot_at(const shape *s, int slot) { return (size_t)s->directory + 24 * (size_t)slot; }
+
+/* The byte of a slot's name area after the name's letters. */
+static inline uint8_t padding(const shape *s, int at) { return s->kind == 900 ? 0 : s->kind == 1000 ? 32 : at == 15 ? 2 : 0; }
+
+/* The lowest type. */
+static inline uint8_t first_type(const shape *s) { return (uint8_t)(s->type - ('S' - 'A')); }
 
 /* n bytes that end at a page which can't be touched. */
 static inline uint8_t *guarded(size_t n) {
@@ -82,18 +98,17 @@ static inline unsigned get_value(const uint8_t *image, unsigned block) {
     return image[1536 + 2 * block] + 256u * image[1537 + 2 * block];
 }
 
-/* A disk without files; the data area is noise. */
+/* A disk without files; the data area is noise. Byte 16 of an S3000 disk says that its first directory is ignored. */
 static inline void make_blank(uint8_t *image, const shape *s) {
     size_t n = 1024 * (size_t)s->blocks;
     memset(image, 0, n);
     for (size_t i = 1024 * (size_t)s->first; i < n; i++)
         image[i] = (uint8_t)next_random();
-    if (s->kind == 1000) {
-        for (int slot = 0; slot < 64; slot++)
-            image[24 * slot + 23] = 3;
-        for (int block = 0; block < s->first; block++)
-            set_value(image, (unsigned)block, 16384);
-    }
+    for (int slot = 0; s->kind == 1000 && slot < 64; slot++)
+        image[24 * slot + 23] = 3;
+    for (int block = 0; s->kind != 900 && block < s->first; block++)
+        set_value(image, (unsigned)block, 16384);
+    image[16] = s->kind == 3000 ? 255 : 0;
 }
 
 /* The stored byte of a capital letter or a space. */
@@ -103,16 +118,20 @@ static inline uint8_t stored(const shape *s, char c) {
 
 /* Writes an entry and chains the blocks, which hold content and noise after it. */
 static inline void add_file(uint8_t *image, const shape *s, int slot, const char *name, const unsigned *blocks, const uint8_t *content, size_t n) {
-    uint8_t *entry = image + 24 * slot;
+    uint8_t *entry = image + slot_at(s, slot);
     size_t count = (n + 1023) / 1024, named = strlen(name);
     for (int i = 0; i < 16; i++)
-        entry[i] = i < s->letters ? stored(s, (size_t)i < named ? name[i] : ' ') : s->kind == 900 ? 0 : 32;
-    entry[16] = s->kind == 900 ? 'S' : 's';
+        entry[i] = i < s->letters ? stored(s, (size_t)i < named ? name[i] : ' ') : padding(s, i);
+    entry[16] = s->type;
     entry[17] = (uint8_t)(n & 255);
     entry[18] = (uint8_t)(n >> 8 & 255);
     entry[19] = (uint8_t)(n >> 16);
     entry[20] = (uint8_t)(blocks[0] & 255);
     entry[21] = (uint8_t)(blocks[0] >> 8);
+    if (s->kind == 3000) {
+        entry[22] = 0;
+        entry[23] = 12;
+    }
     for (size_t k = 0; k < count; k++) {
         size_t part = n - 1024 * k < 1024 ? n - 1024 * k : 1024;
         memcpy(image + 1024 * (size_t)blocks[k], content + 1024 * k, part);
@@ -120,16 +139,20 @@ static inline void add_file(uint8_t *image, const shape *s, int slot, const char
     }
 }
 
-/* Noise in every byte that no rule reads: the rest of empty slots, what lies between the map and the first data block, and on S900 disks
- * the map values below that block. */
+/* Noise in every byte that no rule reads: the rest of empty slots, what lies between the map and the block after it, on S900 disks the map
+ * values of system blocks, on S3000 disks the first directory but for its one byte, and the identities of empty slots. */
 static inline void make_noise(uint8_t *image, const shape *s) {
-    for (int i = 0; i < 1536; i++)
-        if (i % 24 < 22 && i % 24 != 16 && image[i / 24 * 24 + 16] == 0)
-            image[i] = (uint8_t)next_random();
-    for (int i = 1536 + 2 * s->blocks; i < 1024 * s->first; i++)
+    int read = s->kind == 3000 ? 24 : 22;
+    for (int slot = 0; slot < s->slots; slot++)
+        for (int i = 0; i < read; i++)
+            if (i != 16 && image[slot_at(s, slot) + 16] == 0)
+                image[slot_at(s, slot) + (size_t)i] = (uint8_t)next_random();
+    for (int i = 1536 + 2 * s->blocks; i < 1024 * (s->blocks == 800 ? 4 : 5); i++)
         image[i] = (uint8_t)next_random();
     for (int block = 0; s->kind == 900 && block < s->first; block++)
         set_value(image, (unsigned)block, next_random() % 65536);
+    for (int i = 0; s->kind == 3000 && i < 1536; i++)
+        image[i] = i == 16 ? 255 : (uint8_t)next_random();
 }
 
 #endif

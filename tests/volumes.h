@@ -1,4 +1,4 @@
-/* Disks that hold files, file f in slot 9f, and damage to them. */
+/* Disks that hold files, every ninth slot one, on S3000 disks every 85th; and damage to them. */
 #ifndef VOLUMES_H
 #define VOLUMES_H
 
@@ -20,7 +20,10 @@ typedef struct {
 
 static inline size_t blocks_for(size_t length) { return (length + 1023) / 1024; }
 
-/* The data blocks in an order that rises and falls; 343 has no factor in common with either number of them, so none comes twice. */
+/* The slot of file f. */
+static inline int slot_of_file(const volume *v, int f) { return v->s->apart * f; }
+
+/* The data blocks in an order that rises and falls; 343 has no factor in common with any number of them, so none comes twice. */
 static inline unsigned scattered(const shape *s, size_t k) { return (unsigned)s->first + (unsigned)(343 * k % (size_t)(s->blocks - s->first)); }
 
 static inline void make_file(volume *v, int f) {
@@ -28,7 +31,7 @@ static inline void make_file(volume *v, int f) {
         v->contents[f][i] = (uint8_t)next_random();
     for (size_t k = 0; k < blocks_for(FILE_LENGTHS[f]); k++)
         v->chains[f][k] = scattered(v->s, v->used++);
-    add_file(v->image, v->s, 9 * f, FILE_NAMES[f], v->chains[f], v->contents[f], FILE_LENGTHS[f]);
+    add_file(v->image, v->s, slot_of_file(v, f), FILE_NAMES[f], v->chains[f], v->contents[f], FILE_LENGTHS[f]);
 }
 
 static inline void make_volume(volume *v, const shape *s, bool noise) {
@@ -56,16 +59,18 @@ static inline void drop_volume(volume *v) {
     release(v->image, v->n);
 }
 
-static inline uint8_t *entry(volume *v, int f) { return v->image + 24 * 9 * f; }
+static inline uint8_t *entry(volume *v, int f) { return v->image + slot_at(v->s, slot_of_file(v, f)); }
 
-/* One change at random. Names, lengths and starts are taken from files too, since noise hardly ever meets those. */
+/* One change at random, but for what says that the first directory is ignored: that would be another kind. Names, lengths and starts are
+ * taken from files too, since noise hardly ever meets those. */
 static inline void damage(volume *v) {
+    bool ignored = v->image[16] == 255;
     uint8_t *to = entry(v, (int)(next_random() % FILES)), *from = entry(v, (int)(next_random() % FILES));
     unsigned blocks = (unsigned)v->s->blocks, block = next_random() % (next_random() % 8 ? blocks : 8), other = next_random() % blocks;
     unsigned value = get_value(v->image, block);
-    switch (next_random() % 8) {
+    switch (next_random() % 9) {
     case 0:
-        v->image[next_random() % 1536] = (uint8_t)next_random();
+        v->image[slot_at(v->s, 0) + next_random() % (24 * (unsigned)v->s->slots)] = (uint8_t)next_random();
         break;
     case 1:
         v->image[1536 + next_random() % (2 * blocks)] = (uint8_t)next_random();
@@ -80,21 +85,27 @@ static inline void damage(volume *v) {
         memmove(to + 17, from + 17, 3);
         break;
     case 5:
-        memmove(v->image + 24 * (next_random() % 64), from, 22);
+        memmove(v->image + slot_at(v->s, (int)(next_random() % (unsigned)v->s->slots)), from, next_random() % 2 ? 22 : 24);
         break;
     case 6:
+        v->image[next_random() % 1536] = (uint8_t)next_random(); /* of no account on an S3000 disk */
+        break;
+    case 7:
         set_value(v->image, block, next_random() % 4 ? other : v->s->end);
         break;
     default:
         set_value(v->image, block, get_value(v->image, other));
         set_value(v->image, other, value);
     }
+    if ((v->image[16] == 255) != ignored)
+        v->image[16] = ignored ? 255 : 0;
 }
 
-/* Every refusal that a disk of a legal length can get was met, and none at times; 3 is for S1000 disks. */
+/* Every refusal that a disk of a legal length can get was met, and none at times: no 3 on S900 disks, and no 2 on S3000 disks, which their
+ * identities don't tell. */
 static inline void all_met(const shape *s, const size_t *met) {
     for (int number = 0; number <= 9; number++)
-        CHECK((met[number] > 0) == (number != 1 && (number != 3 || s->kind == 1000)));
+        CHECK((met[number] > 0) == (number != 1 && (number != 2 || s->kind != 3000) && (number != 3 || s->kind != 900)));
 }
 
 #endif
