@@ -3,10 +3,11 @@
 use std::path::Path;
 use std::process::Command;
 
-// Functions are aligned so that the peer's times don't hang on where the linker happens to put it.
-const FLAGS: [&str; 8] = [
+// Functions and loops are aligned so that the peer's times don't hang on where they happen to be put.
+const FLAGS: [&str; 9] = [
     "-O3",
     "-falign-functions=64",
+    "-falign-loops=32",
     "-std=c11",
     "-D_DEFAULT_SOURCE",
     "-Wall",

@@ -1,15 +1,16 @@
-/* The disk rules of document 01 by hand in plain C: what the library's check, put, remove and salvage are timed against. Each function
- * has the signature of the library's. */
+/* The disk rules of document 01, and of document 02's request five, by hand in plain C: what the library's check, put, remove and salvage are timed
+ * against. Each function has the signature of the library's. */
 #include "skilletjay.h"
 
 #include <string.h>
 
-enum { BLOCK = 1024, SLOTS = 64, ENTRY = 24, MAP_AT = 1536, SYSTEM = 16384, MOST_BLOCKS = 1600, LONGEST = 16777215 };
+enum { BLOCK = 1024, FEW_SLOTS = 64, MOST_SLOTS = 512, ENTRY = 24, MAP_AT = 1536, SYSTEM = 16384, MOST_BLOCKS = 1600, LONGEST = 16777215 };
 
 typedef struct {
     unsigned kind, density;
-    size_t blocks, first, end_mark, letters;
-    uint8_t low, high, pad, least, most;
+    size_t blocks, first, slots, directory, end_mark, letters;
+    uint8_t low, high, pad, last, least, most; /* the last byte of a name's area is no padding */
+    size_t identity;
 } layout;
 
 typedef struct {
@@ -30,14 +31,18 @@ static size_t value_at(const uint8_t *image, size_t block) { return number2(imag
 
 static void set_value(uint8_t *image, size_t block, size_t value) { store2(image + MAP_AT + 2 * block, value); }
 
+static size_t slot_at(const layout *disk, size_t slot) { return disk->directory + ENTRY * slot; }
+
 static bool is_used(const uint8_t *entry) { return entry[16] != 0; }
 
 static bool is_link(const layout *disk, size_t value) { return disk->first <= value && value < disk->blocks; }
 
 static size_t blocks_for(size_t length) { return (length + BLOCK - 1) / BLOCK; }
 
+static bool is_akaii(const layout *disk) { return disk->kind != 900; }
+
 static bool all_identities(const uint8_t *image, size_t identity) {
-    for (int slot = 0; slot < SLOTS; slot++)
+    for (int slot = 0; slot < FEW_SLOTS; slot++)
         if (number2(image + ENTRY * slot + 22) != identity)
             return false;
     return true;
@@ -49,17 +54,21 @@ static fault read_layout(const uint8_t *image, size_t length, layout *disk) {
     if (!high && length != 819200)
         return (fault){1, 0};
     size_t blocks = high ? 1600 : 800, first = high ? 5 : 4;
+    if (image[16] == 255) {
+        *disk = (layout){3000, high, blocks, 17, MOST_SLOTS, 5120, 49152, 12, 0, 40, 0, 2, 'A' + 128, 'Z' + 128, 0xC00};
+        return (fault){high ? 0 : 2, 0};
+    }
     if (all_identities(image, 0))
-        *disk = (layout){900, high, blocks, first, 32768, 10, 32, 126, 0, 'A', 'Z'};
+        *disk = (layout){900, high, blocks, first, FEW_SLOTS, 0, 32768, 10, 32, 126, 0, 0, 'A', 'Z', 0};
     else if (all_identities(image, 0x300))
-        *disk = (layout){1000, high, blocks, first, 49152, 12, 0, 40, 32, 'a', 'z'};
+        *disk = (layout){1000, high, blocks, first, FEW_SLOTS, 0, 49152, 12, 0, 40, 32, 32, 'a', 'z', 0x300};
     else
         return (fault){2, 0};
     return (fault){0, 0};
 }
 
 static fault system_fault(const uint8_t *image, const layout *disk) {
-    if (disk->kind == 1000)
+    if (is_akaii(disk))
         for (size_t block = 0; block < disk->first; block++)
             if (value_at(image, block) != SYSTEM)
                 return (fault){3, block};
@@ -70,31 +79,61 @@ static bool is_well_formed(const uint8_t *entry, const layout *disk) {
     for (size_t i = 0; i < disk->letters; i++)
         if (entry[i] < disk->low || entry[i] > disk->high)
             return false;
-    for (size_t i = disk->letters; i < 16; i++)
+    for (size_t i = disk->letters; i < 15; i++)
         if (entry[i] != disk->pad)
             return false;
-    return disk->least <= entry[16] && entry[16] <= disk->most && number3(entry + 17) >= 1;
+    return entry[15] == disk->last && disk->least <= entry[16] && entry[16] <= disk->most && number3(entry + 17) >= 1
+           && number2(entry + 22) == disk->identity;
 }
 
 static fault form_fault(const uint8_t *image, const layout *disk) {
-    for (size_t slot = 0; slot < SLOTS; slot++) {
-        const uint8_t *entry = image + ENTRY * slot;
+    for (size_t slot = 0; slot < disk->slots; slot++) {
+        const uint8_t *entry = image + slot_at(disk, slot);
         if (is_used(entry) && !is_well_formed(entry, disk))
             return (fault){4, slot};
     }
     return (fault){0, 0};
 }
 
-static fault name_fault(const uint8_t *image) {
-    for (size_t slot = 1; slot < SLOTS; slot++) {
-        const uint8_t *entry = image + ENTRY * slot;
+static fault pair_fault(const uint8_t *image, const layout *disk) {
+    const uint8_t *first = image + disk->directory;
+    for (size_t slot = 1; slot < disk->slots; slot++) {
+        const uint8_t *entry = image + slot_at(disk, slot);
         if (!is_used(entry))
             continue;
-        for (const uint8_t *lower = image; lower < entry; lower += ENTRY)
+        for (const uint8_t *lower = first; lower < entry; lower += ENTRY)
             if (is_used(lower) && memcmp(lower, entry, 16) == 0)
                 return (fault){5, slot};
     }
     return (fault){0, 0};
+}
+
+/* The top ten bits of products, which all bytes of a name take part in. */
+static size_t hash(const uint8_t *name) {
+    uint64_t half[2];
+    memcpy(half, name, 16);
+    return ((half[0] * 0x9E3779B97F4A7C15u ^ half[1]) * 0xD6E8FEB86659FD93u) >> 54;
+}
+
+/* By a table of hashes with a cell for each slot at least twice over: where a cell is taken, the next one is asked. */
+static fault hash_fault(const uint8_t *image, const layout *disk) {
+    enum { CELLS = 1024 };
+    uint16_t table[CELLS] = {0}; /* a slot plus 1, or 0 */
+    for (size_t slot = 0; slot < disk->slots; slot++) {
+        const uint8_t *entry = image + slot_at(disk, slot);
+        if (!is_used(entry))
+            continue;
+        size_t cell = hash(entry);
+        for (; table[cell] != 0; cell = (cell + 1) % CELLS)
+            if (memcmp(image + slot_at(disk, table[cell] - 1u), entry, 16) == 0)
+                return (fault){5, slot};
+        table[cell] = (uint16_t)(slot + 1);
+    }
+    return (fault){0, 0};
+}
+
+static fault name_fault(const uint8_t *image, const layout *disk) {
+    return disk->slots > FEW_SLOTS ? hash_fault(image, disk) : pair_fault(image, disk);
 }
 
 /* The number of a chain's first fault, 6 or 7, or 0. */
@@ -111,8 +150,8 @@ static uint32_t walk(const uint8_t *image, const layout *disk, const uint8_t *en
 }
 
 static fault chain_fault(const uint8_t *image, const layout *disk) {
-    for (size_t slot = 0; slot < SLOTS; slot++) {
-        const uint8_t *entry = image + ENTRY * slot;
+    for (size_t slot = 0; slot < disk->slots; slot++) {
+        const uint8_t *entry = image + slot_at(disk, slot);
         uint32_t number = is_used(entry) ? walk(image, disk, entry) : 0;
         if (number != 0)
             return (fault){number, slot};
@@ -122,8 +161,8 @@ static fault chain_fault(const uint8_t *image, const layout *disk) {
 
 /* All chains are faultless here: each ends at its end mark. */
 static fault share_fault(const uint8_t *image, const layout *disk, bool *taken) {
-    for (size_t slot = 0; slot < SLOTS; slot++) {
-        const uint8_t *entry = image + ENTRY * slot;
+    for (size_t slot = 0; slot < disk->slots; slot++) {
+        const uint8_t *entry = image + slot_at(disk, slot);
         if (!is_used(entry))
             continue;
         for (size_t block = number2(entry + 20); block != disk->end_mark; block = value_at(image, block)) {
@@ -148,15 +187,15 @@ static fault stray_fault(const uint8_t *image, const layout *disk, const bool *t
     return (fault){0, 0};
 }
 
-static size_t count_files(const uint8_t *image) {
+static size_t count_files(const uint8_t *image, const layout *disk) {
     size_t files = 0;
-    for (int slot = 0; slot < SLOTS; slot++)
-        files += is_used(image + ENTRY * slot);
+    for (size_t slot = 0; slot < disk->slots; slot++)
+        files += is_used(image + slot_at(disk, slot));
     return files;
 }
 
-/* Refusals 1 to 9 in their order, one rule after another. */
-static fault check(const uint8_t *image, size_t length, layout *disk, size_t *free) {
+/* Refusals 1 to 9 in their order, one rule after another; 5 by the function given. */
+static inline fault check_by(fault (*names)(const uint8_t *, const layout *), const uint8_t *image, size_t length, layout *disk, size_t *free) {
     bool taken[MOST_BLOCKS] = {false};
     fault found = read_layout(image, length, disk);
     if (found.number == 0)
@@ -164,7 +203,7 @@ static fault check(const uint8_t *image, size_t length, layout *disk, size_t *fr
     if (found.number == 0)
         found = form_fault(image, disk);
     if (found.number == 0)
-        found = name_fault(image);
+        found = names(image, disk);
     if (found.number == 0)
         found = chain_fault(image, disk);
     if (found.number == 0)
@@ -174,43 +213,58 @@ static fault check(const uint8_t *image, size_t length, layout *disk, size_t *fr
     return found;
 }
 
-sj_checked peer_check(const uint8_t *image, size_t image_len) {
-    layout disk;
-    size_t free;
-    fault found = check(image, image_len, &disk, &free);
+static fault check(const uint8_t *image, size_t length, layout *disk, size_t *free) { return check_by(name_fault, image, length, disk, free); }
+
+static sj_checked told(fault found, const uint8_t *image, const layout *disk, size_t free) {
     if (found.number != 0)
         return (sj_checked){found.number, found.place, 0, 0, 0, 0};
-    return (sj_checked){0, 0, disk.kind, disk.density, count_files(image), free};
+    return (sj_checked){0, 0, disk->kind, disk->density, count_files(image, disk), free};
+}
+
+sj_checked peer_check(const uint8_t *image, size_t image_len) {
+    layout disk;
+    size_t free = 0;
+    fault found = check(image, image_len, &disk, &free);
+    return told(found, image, &disk, free);
+}
+
+/* The check that compares all pairs of names, however many. */
+sj_checked peer_check_pairs(const uint8_t *image, size_t image_len) {
+    layout disk;
+    size_t free = 0;
+    fault found = check_by(pair_fault, image, image_len, &disk, &free);
+    return told(found, image, &disk, free);
 }
 
 static const char AKAII[] = "0123456789 ABCDEFGHIJKLMNOPQRSTUVWXYZ#+-.";
 
-/* A name's 16 bytes on the disk, if it is legal. On S1000 disks a to z are taken as A to Z. */
+/* A name's 16 bytes on the disk, if it is legal. But for S900 disks a to z are taken as A to Z. */
 static bool name_area(const layout *disk, const uint8_t *name, size_t length, uint8_t *area) {
     if (length != disk->letters)
         return false;
-    memset(area, disk->pad, 16);
+    memset(area, disk->pad, 15);
+    area[15] = disk->last;
     for (size_t i = 0; i < length; i++) {
         uint8_t capital = name[i] >= 'a' && name[i] <= 'z' ? name[i] - 32 : name[i];
-        const char *code = disk->kind == 1000 ? memchr(AKAII, capital, sizeof AKAII - 1) : NULL;
-        if (disk->kind == 1000 ? code == NULL : name[i] < 32 || name[i] > 126)
+        const char *code = is_akaii(disk) ? memchr(AKAII, capital, sizeof AKAII - 1) : NULL;
+        if (is_akaii(disk) ? code == NULL : name[i] < 32 || name[i] > 126)
             return false;
-        area[i] = disk->kind == 1000 ? (uint8_t)(code - AKAII) : name[i];
+        area[i] = is_akaii(disk) ? (uint8_t)(code - AKAII) : name[i];
     }
     return true;
 }
 
-/* The slot with a name's area, or SLOTS. */
-static size_t slot_of(const uint8_t *image, const uint8_t *area) {
+/* The slot with a name's area, or the number of slots. */
+static size_t slot_of(const uint8_t *image, const layout *disk, const uint8_t *area) {
     size_t slot = 0;
-    while (slot < SLOTS && !(is_used(image + ENTRY * slot) && memcmp(image + ENTRY * slot, area, 16) == 0))
+    while (slot < disk->slots && !(is_used(image + slot_at(disk, slot)) && memcmp(image + slot_at(disk, slot), area, 16) == 0))
         slot++;
     return slot;
 }
 
-static size_t empty_slot(const uint8_t *image) {
+static size_t empty_slot(const uint8_t *image, const layout *disk) {
     size_t slot = 0;
-    while (slot < SLOTS && is_used(image + ENTRY * slot))
+    while (slot < disk->slots && is_used(image + slot_at(disk, slot)))
         slot++;
     return slot;
 }
@@ -247,21 +301,22 @@ sj_found peer_put(uint8_t *image, size_t image_len, const uint8_t *name, size_t 
         return refused(11, 0);
     if (content_len == 0)
         return refused(13, 0);
-    size_t taken = slot_of(image, area), slot = empty_slot(image);
-    if (taken < SLOTS)
+    size_t taken = slot_of(image, &disk, area), slot = empty_slot(image, &disk);
+    if (taken < disk.slots)
         return refused(12, taken);
-    if (slot == SLOTS)
+    if (slot == disk.slots)
         return refused(14, 0);
     if (blocks_for(content_len) > free)
         return refused(15, 0);
     if (content_len > LONGEST)
         return refused(16, 0);
-    uint8_t *entry = image + ENTRY * slot;
+    uint8_t *entry = image + slot_at(&disk, slot);
     memcpy(entry, area, 16);
     entry[16] = type;
     store2(entry + 17, content_len);
     entry[19] = (uint8_t)(content_len >> 16);
     store2(entry + 20, store_content(image, &disk, content, content_len));
+    store2(entry + 22, disk.identity);
     return (sj_found){0, 0, slot};
 }
 
@@ -274,10 +329,10 @@ sj_done peer_remove(uint8_t *image, size_t image_len, const uint8_t *name, size_
         return (sj_done){found.number, found.place};
     if (!name_area(&disk, name, name_len, area))
         return (sj_done){11, 0};
-    size_t slot = slot_of(image, area);
-    if (slot == SLOTS)
+    size_t slot = slot_of(image, &disk, area);
+    if (slot == disk.slots)
         return (sj_done){10, 0};
-    uint8_t *entry = image + ENTRY * slot;
+    uint8_t *entry = image + slot_at(&disk, slot);
     for (size_t block = number2(entry + 20), next; block != disk.end_mark; block = next) {
         next = value_at(image, block);
         set_value(image, block, 0);
@@ -289,8 +344,8 @@ sj_done peer_remove(uint8_t *image, size_t image_len, const uint8_t *name, size_
 /* The files that a salvage has kept so far. */
 typedef struct {
     size_t files;
-    uint64_t names[SLOTS][2];   /* a name area's 16 bytes */
-    uint16_t keep[MOST_BLOCKS]; /* all ones where a block is on a chain of theirs, else 0 */
+    uint64_t names[MOST_SLOTS][2]; /* a name area's 16 bytes */
+    uint16_t keep[MOST_BLOCKS];    /* all ones where a block is on a chain of theirs, else 0 */
 } kept;
 
 /* Takes a chain's blocks, or gives the number of its first fault, 6, 7 or 8. One walk, which notes the blocks on its way: a step waits for the
@@ -341,7 +396,7 @@ static uint8_t judge(const uint8_t *image, const layout *disk, const uint8_t *en
  * order, so that the values are taken as they lie, and the count has 16 bits too: the compiler then handles several at once. */
 static size_t mend_map(uint8_t *image, const layout *disk, const uint16_t *keep) {
     uint16_t marked = 0, freed = 0;
-    for (size_t block = 0; disk->kind == 1000 && block < disk->first; block++) {
+    for (size_t block = 0; is_akaii(disk) && block < disk->first; block++) {
         marked += value_at(image, block) != SYSTEM;
         set_value(image, block, SYSTEM);
     }
@@ -361,14 +416,14 @@ sj_counted peer_salvage(uint8_t *image, size_t image_len, uint8_t *report, size_
     fault found = read_layout(image, image_len, &disk);
     if (found.number != 0)
         return (sj_counted){found.number, found.place, 0};
-    if (report_len < SLOTS)
+    if (report_len < disk.slots)
         return (sj_counted){21, 0, 0};
     so_far.files = 0;
     memset(so_far.keep, 0, sizeof so_far.keep);
-    for (size_t slot = 0; slot < SLOTS; slot++) {
-        report[slot] = judge(image, &disk, image + ENTRY * slot, &so_far);
+    for (size_t slot = 0; slot < disk.slots; slot++) {
+        report[slot] = judge(image, &disk, image + slot_at(&disk, slot), &so_far);
         if (report[slot] > 1)
-            memset(image + ENTRY * slot, 0, 22);
+            memset(image + slot_at(&disk, slot), 0, 22);
     }
     return (sj_counted){0, 0, mend_map(image, &disk, so_far.keep)};
 }

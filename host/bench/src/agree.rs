@@ -1,6 +1,8 @@
 //! The peer must do the library's work: both answer alike, on good disks and files and on faulty ones.
 
-use crate::calls::{LIBRARY, PEER};
+use crate::calls::{LIBRARY, PAIRS, PEER};
+use crate::disks::Order;
+use crate::s3000;
 use model::faults::{self, FAULTS};
 use model::files;
 use model::layout::{Kind, LAYOUTS, SLOTS};
@@ -12,7 +14,7 @@ pub fn hold() -> usize {
     let mut compared = 0;
     for seed in 0..120 {
         let mut random = Random::new(seed);
-        compared += disks(&mut random) + samples(&mut random);
+        compared += disks(&mut random) + s3000_disks(&mut random) + samples(&mut random);
     }
     compared
 }
@@ -25,41 +27,60 @@ fn disks(random: &mut Random) -> usize {
         let mut spoilt = image.clone();
         faults::spoil(&mut spoilt, &disk, fault, random);
         same_check(&spoilt);
-        same_salvage(&spoilt);
+        same_salvage(&spoilt, SLOTS);
         let mut damaged = image.clone();
         faults::damage(&mut damaged, layout, random);
         same_check(&damaged);
-        same_salvage(&damaged);
+        same_salvage(&damaged, SLOTS);
         let mut wrecked = image.clone();
         faults::wreck(&mut wrecked, &disk, random);
-        same_salvage(&wrecked);
+        same_salvage(&wrecked, SLOTS);
     }
     same_check(&image);
-    same_salvage(&image);
-    changes(image, layout.kind, random);
+    same_salvage(&image, SLOTS);
+    changes(image, layout.kind, 0, random);
     3 * FAULTS.len() + 1
+}
+
+/// S3000 disks with up to three faults.
+fn s3000_disks(random: &mut Random) -> usize {
+    let files = random.pick(&[0, 1, 40, 500, 511, 512]);
+    let used = random.within(files, s3000::DATA_BLOCKS);
+    let image = s3000::disk(files, used, random.pick(&[Order::Rising, Order::Scattered]));
+    for _ in 0..20 {
+        let mut spoilt = image.clone();
+        for _ in 0..random.within(0, 3) {
+            s3000::spoil(&mut spoilt, random);
+        }
+        same_check(&spoilt);
+        same_salvage(&spoilt, s3000::SLOTS);
+    }
+    changes(image, Kind::S1000, 96, random);
+    20
 }
 
 /// Both check an image alike.
 pub fn same_check(image: &[u8]) {
     assert_eq!(LIBRARY.check(image), PEER.check(image), "check");
+    assert_eq!(PEER.check(image), PAIRS.check(image), "check of all pairs");
 }
 
-/// Both salvage an image alike, and refuse to where the report is too short; gives the report.
-pub fn same_salvage(image: &[u8]) -> [u8; SLOTS] {
+/// Both salvage an image of so many slots alike, and refuse to where the report is too short; gives the report.
+pub fn same_salvage(image: &[u8], slots: usize) -> Vec<u8> {
     let (mut ours, mut theirs) = (image.to_vec(), image.to_vec());
-    let (mut our, mut their) = ([9; SLOTS + 3], [9; SLOTS + 3]);
-    for room in [SLOTS - 1, SLOTS + 3] {
+    let (mut our, mut their) = (vec![9; slots + 3], vec![9; slots + 3]);
+    for room in [slots - 1, slots + 3] {
         let salvaged = LIBRARY.salvage(&mut ours, &mut our[..room]);
         assert_eq!(salvaged, PEER.salvage(&mut theirs, &mut their[..room]), "salvage");
         assert_eq!(our, their, "reports");
         assert!(ours == theirs, "images part");
     }
-    std::array::from_fn(|slot| our[slot])
+    our.truncate(slots);
+    our
 }
 
-/// Puts and removes, legal and not, by the same name in more than one spelling.
-fn changes(mut image: Vec<u8>, kind: Kind, random: &mut Random) {
+/// Puts and removes, legal and not, by the same name in more than one spelling. Types are those of a kind and so much more.
+fn changes(mut image: Vec<u8>, kind: Kind, more: u8, random: &mut Random) {
     let mut copy = image.clone();
     for _ in 0..12 {
         let mut name = maker::legal_name(kind, random);
@@ -69,7 +90,7 @@ fn changes(mut image: Vec<u8>, kind: Kind, random: &mut Random) {
         if random.one_in(8) {
             name[3] = random.pick(&[200, b'@', b'[', b'`', b'{']);
         }
-        let file_type = if random.one_in(8) { b'!' } else { maker::legal_type(kind, random) };
+        let file_type = if random.one_in(8) { b'!' } else { maker::legal_type(kind, random) + more };
         let size = random.pick(&[0, 1, 1024, 1025, 50_000, 1_000_000]);
         let content = random.bytes(size);
         let put = LIBRARY.put(&mut image, &name, file_type, &content);

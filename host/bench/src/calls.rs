@@ -43,6 +43,7 @@ pub const PEER: Calls = Calls {
 #[rustfmt::skip] // one line each, as in the header
 unsafe extern "C" {
     fn peer_check(image: *const u8, image_len: usize) -> Checked;
+    fn peer_check_pairs(image: *const u8, image_len: usize) -> Checked;
     fn peer_put(image: *mut u8, image_len: usize, name: *const u8, name_len: usize, file_type: u8, content: *const u8, content_len: usize) -> Found;
     fn peer_remove(image: *mut u8, image_len: usize, name: *const u8, name_len: usize) -> Done;
     fn peer_salvage(image: *mut u8, image_len: usize, report: *mut u8, report_len: usize) -> Counted;
@@ -51,6 +52,9 @@ unsafe extern "C" {
     fn peer_s1000_unpack(file: *const u8, file_len: usize, words: *mut i16, words_len: usize) -> Counted;
     fn peer_s1000_pack(header: *const u8, header_len: usize, words: *const i16, words_len: usize, out: *mut u8, out_len: usize) -> Counted;
 }
+
+/// Plain C whose check compares all pairs of names.
+pub const PAIRS: Calls = Calls { check: peer_check_pairs, ..PEER };
 
 // SAFETY of all calls below: slices are lent for their lengths, mutable ones lie apart from all others, and neither side writes
 // to what it is lent as const.

@@ -11,6 +11,7 @@ mod pages;
 mod processes;
 mod race;
 mod reader;
+mod s3000;
 mod salvages;
 mod samples;
 mod stack;

@@ -4,7 +4,8 @@ use crate::calls::PEER;
 use crate::disks::{Order, disk};
 use crate::race::{race, timed};
 use crate::reader;
-use crate::table::Table;
+use crate::s3000;
+use crate::table::{Goal, Table};
 use model::cases::{cost_in, printed_by, text_of};
 use model::layout::{BLOCK, Kind};
 use skilletjay::lend;
@@ -13,34 +14,49 @@ use std::path::Path;
 const BLOCKS: usize = 1536;
 const LENGTH: usize = BLOCK * BLOCKS;
 
-/// Times the whole file in pages of some sizes.
+/// Times the whole file in pages of some sizes, and once on an S3000 disk.
 pub fn run(table: &mut Table) {
-    let image = &disk(Kind::S1000, 1, BLOCKS, Order::Rising);
-    let content = image[5 * BLOCK..][..LENGTH].to_vec();
+    let image = disk(Kind::S1000, 1, BLOCKS, Order::Rising);
     for (size, rust, copy) in
         [(1 << 10, None, None), (4 << 10, None, None), (64 << 10, Some(1.2), None), (LENGTH, None, Some(2.0))]
     {
-        let mut outs = [vec![0; LENGTH], vec![0; LENGTH], vec![0; LENGTH], vec![0; LENGTH]];
-        let [library, checked, unchecked, copied] = &mut outs;
-        let mut runners = [
-            timed(|| pages(library, size, |at, out| lend::page(image, 0, at, out).count)),
-            timed(|| pages(checked, size, |at, out| checked_page(image, at, out))),
-            timed(|| {
-                pages(unchecked, size, |at, out| reader::page(image, 0, at, out).map_or(0, |page| page.0))
-            }),
-            timed(|| copied.copy_from_slice(&content)),
-        ];
-        let taken = race(&mut runners);
-        drop(runners);
-        assert!(outs.iter().all(|out| *out == content), "pages part");
         let what = match size {
             LENGTH => "page 1.5 MB, whole".into(),
             _ => format!("page 1.5 MB, {} KiB each", size / BLOCK),
         };
-        table.ratio(&what, &taken[0], "Rust, each page checked by C", &taken[1], rust);
-        table.ratio(&what, &taken[0], "Rust, no check", &taken[2], None);
-        table.ratio(&what, &taken[0], "memcpy of the whole", &taken[3], copy);
+        against(table, &what, Paged { image: &image, slot_at: 0, first: 5 }, size, [rust, copy]);
     }
+    let image = s3000::disk(1, BLOCKS, Order::Rising);
+    let paged = Paged { image: &image, slot_at: s3000::DIRECTORY, first: s3000::FIRST };
+    against(table, "page 1.5 MB, S3000, 64 KiB each", paged, 64 << 10, [Some(1.2), None]);
+}
+
+/// A disk whose one file is in slot 0 and begins at the first data block.
+struct Paged<'a> {
+    image: &'a [u8],
+    slot_at: usize,
+    first: usize,
+}
+
+/// The goals are those against the checked reader and against memcpy.
+fn against(table: &mut Table, what: &str, disk: Paged, size: usize, goals: [Goal; 2]) {
+    let Paged { image, slot_at, first } = disk;
+    let content = image[first * BLOCK..][..LENGTH].to_vec();
+    let mut outs = [vec![0; LENGTH], vec![0; LENGTH], vec![0; LENGTH], vec![0; LENGTH]];
+    let [library, checked, unchecked, copied] = &mut outs;
+    let read = |at, out: &mut [u8]| reader::page(image, slot_at, at, out).map_or(0, |page| page.0);
+    let mut runners = [
+        timed(|| pages(library, size, |at, out| lend::page(image, 0, at, out).count)),
+        timed(|| pages(checked, size, |at, out| if accepted(image) { read(at, out) } else { 0 })),
+        timed(|| pages(unchecked, size, read)),
+        timed(|| copied.copy_from_slice(&content)),
+    ];
+    let taken = race(&mut runners);
+    drop(runners);
+    assert!(outs.iter().all(|out| *out == content), "pages part");
+    table.ratio(what, &taken[0], "Rust, each page checked by C", &taken[1], goals[0]);
+    table.ratio(what, &taken[0], "Rust, no check", &taken[2], None);
+    table.ratio(what, &taken[0], "memcpy of the whole", &taken[3], goals[1]);
 }
 
 /// Counts links and runs of the whole file in pages of 64 KiB, as the program `cases` tells them: C isn't told.
@@ -71,10 +87,7 @@ fn pages(out: &mut [u8], size: usize, mut page: impl FnMut(usize, &mut [u8]) -> 
     }
 }
 
-/// The plain reader, with the check that each page of the library has.
-fn checked_page(image: &[u8], at: usize, out: &mut [u8]) -> usize {
-    if PEER.check(image).refusal != 0 {
-        return 0;
-    }
-    reader::page(image, 0, at, out).map_or(0, |page| page.0)
+/// The check that each page of the library has.
+fn accepted(image: &[u8]) -> bool {
+    PEER.check(image).refusal == 0
 }

@@ -4,26 +4,32 @@ use crate::agree::same_salvage;
 use crate::calls::{Calls, LIBRARY, PEER};
 use crate::disks::{Order, disk, high};
 use crate::race::{Runner, race};
+use crate::s3000;
 use crate::table::Table;
 use model::faults::{FAULTS, spoil};
-use model::layout::{Kind, SLOTS};
+use model::layout::{BLOCK, Kind, SLOTS};
 use model::random::Random;
 use std::time::{Duration, Instant};
 
-/// Directory and map lie in these bytes: all that a salvage changes.
-const HEAD: usize = 5120;
-
-/// Times the salvage of high density disks of 64 files that use all blocks, with every fault of a slot and of the map, and with none.
+/// Times the salvage of high density disks whose files take all slots and all blocks, with every fault of a slot and of the map, and with none.
 pub fn run(table: &mut Table) {
     for kind in [Kind::S900, Kind::S1000] {
         let accepted = disk(kind, SLOTS, high(kind).data_blocks(), Order::Scattered);
         let damaged = damage(&accepted);
-        let report = same_salvage(&damaged);
-        assert!([0, 1, 4, 5, 6, 7, 8].iter().all(|said| report.contains(said)), "{report:?}");
-        assert_eq!(same_salvage(&accepted), [1; SLOTS]);
-        against(table, &format!("salvage a full damaged disk, {kind:?}"), damaged);
-        against(table, &format!("salvage a full accepted disk, {kind:?}"), accepted);
+        both(table, &format!("{kind:?}"), damaged, accepted, SLOTS);
     }
+    let accepted = s3000::disk(s3000::SLOTS, s3000::DATA_BLOCKS, Order::Scattered);
+    let mut damaged = accepted.clone();
+    s3000::damage(&mut damaged);
+    both(table, "S3000", damaged, accepted, s3000::SLOTS);
+}
+
+fn both(table: &mut Table, kind: &str, damaged: Vec<u8>, accepted: Vec<u8>, slots: usize) {
+    let report = same_salvage(&damaged, slots);
+    assert!([0, 1, 4, 5, 6, 7, 8].iter().all(|said| report.contains(said)), "{report:?}");
+    assert!(same_salvage(&accepted, slots).iter().all(|&said| said == 1));
+    against(table, &format!("salvage a full damaged disk, {kind}"), damaged, slots);
+    against(table, &format!("salvage a full accepted disk, {kind}"), accepted, slots);
 }
 
 /// Every fault but those of length and kind, one after another; the blocks of the slots that are dropped are strays then.
@@ -36,23 +42,25 @@ fn damage(accepted: &[u8]) -> Vec<u8> {
     image
 }
 
-fn against(table: &mut Table, what: &str, image: Vec<u8>) {
-    let head = &image[..HEAD];
+fn against(table: &mut Table, what: &str, image: Vec<u8>, slots: usize) {
+    // Directory and map lie in these bytes: all that a salvage changes.
+    let head = &image[..if slots == SLOTS { 5120 } else { BLOCK * s3000::FIRST }];
     let [mut ours, mut theirs] = [image.clone(), image.clone()];
-    let mut runners = [turns(LIBRARY, &mut ours, head), turns(PEER, &mut theirs, head)];
+    let mut runners = [turns(LIBRARY, &mut ours, head, slots), turns(PEER, &mut theirs, head, slots)];
     let taken = race(&mut runners);
     drop(runners);
     assert!(ours == theirs, "images part");
-    table.ratio(what, &taken[0], "C", &taken[1], Some(1.3));
+    // 512 names are compared in pairs by both: no more is asked than to see what that takes.
+    table.ratio(what, &taken[0], "C", &taken[1], (slots == SLOTS).then_some(1.3));
 }
 
 /// Salvages the same image again and again: directory and map are put back before each call, which isn't counted.
-fn turns<'a>(side: Calls, image: &'a mut [u8], head: &'a [u8]) -> Runner<'a> {
-    let mut report = [0; SLOTS];
+fn turns<'a>(side: Calls, image: &'a mut [u8], head: &'a [u8], slots: usize) -> Runner<'a> {
+    let mut report = vec![0; slots];
     Box::new(move |times| {
         let mut taken = Duration::ZERO;
         for _ in 0..times {
-            image[..HEAD].copy_from_slice(head);
+            image[..head.len()].copy_from_slice(head);
             let begin = Instant::now();
             let refusal = side.salvage(image, &mut report).refusal;
             taken += begin.elapsed();

@@ -2,6 +2,7 @@
 
 use crate::calls::LIBRARY;
 use crate::disks::{Order, disk, high, name};
+use crate::s3000;
 use crate::table::Table;
 use model::files;
 use model::layout::{Kind, SLOTS};
@@ -29,7 +30,10 @@ fn used<F: FnMut()>(mut call: F) -> usize {
 /// Measures every call of the header, each where it is done.
 pub fn run(table: &mut Table) {
     let own = used(|| {});
-    let mut calls = disk_calls();
+    let image = disk(Kind::S1000, 63, high(Kind::S1000).data_blocks() - 8, Order::Scattered);
+    let mut calls = disk_calls(image, &name(Kind::S1000, 5), b's', SLOTS);
+    let image = s3000::disk(511, s3000::DATA_BLOCKS - 8, Order::Scattered);
+    calls.extend(disk_calls(image, &s3000::name(5), s3000::TYPE, s3000::SLOTS));
     calls.extend(file_calls());
     let (call, most) = calls.into_iter().max_by_key(|&(_, bytes)| bytes).expect("some calls");
     let bytes = most - own;
@@ -37,22 +41,20 @@ pub fn run(table: &mut Table) {
     table.limit(&format!("largest stack: {call}"), &kib, "", "below 64 KiB", own > 0 && bytes < 64 << 10);
 }
 
-fn disk_calls() -> Vec<(&'static str, usize)> {
-    let (kind, blocks) = (Kind::S1000, high(Kind::S1000).data_blocks());
-    let mut image = disk(kind, 63, blocks - 8, Order::Scattered);
-    let (held, put, content) = (name(kind, 5), name(kind, 90), vec![1; 8000]);
+fn disk_calls(mut image: Vec<u8>, held: &[u8], file_type: u8, slots: usize) -> Vec<(&'static str, usize)> {
+    let (put, content) = (s3000::name(600), vec![1; 8000]);
     let (mut out, mut blocks, mut answers) = (vec![0; 1 << 16], vec![0; 1600], vec![0; 1044]);
-    let mut report = [0; SLOTS];
+    let mut report = vec![0; slots];
     let pool = [put.clone(), content.clone()].concat();
     // Puts the content, which stands in the pool after the name.
-    let script = [4, b's', 0, 0, 0, 0, 0, 0, 12, 0, 0, 0, 12, 0, 0, 0, 64, 31, 0, 0];
+    let script = [4, file_type, 0, 0, 0, 0, 0, 0, 12, 0, 0, 0, 12, 0, 0, 0, 64, 31, 0, 0];
     vec![
         ("check", used(|| assert_eq!(LIBRARY.check(&image).refusal, 0))),
         ("list", used(|| assert_eq!(lend::list(&image, 5).refusal, 0))),
-        ("find", used(|| assert_eq!(lend::find(&image, &held).refusal, 0))),
+        ("find", used(|| assert_eq!(lend::find(&image, held).refusal, 0))),
         ("page", used(|| assert_eq!(lend::page(&image, 5, 0, &mut out).refusal, 0))),
         ("blocks", used(|| assert_eq!(lend::blocks(&image, 5, &mut blocks).refusal, 0))),
-        ("put", used(|| assert_eq!(LIBRARY.put(&mut image, &put, b's', &content).refusal, 0))),
+        ("put", used(|| assert_eq!(LIBRARY.put(&mut image, &put, file_type, &content).refusal, 0))),
         ("remove", used(|| assert_eq!(LIBRARY.remove(&mut image, &put).refusal, 0))),
         ("salvage", used(|| assert_eq!(LIBRARY.salvage(&mut image, &mut report).refusal, 0))),
         ("run", used(|| assert_eq!(lend::run(&mut image, &script, &pool, &mut answers), 1))),
