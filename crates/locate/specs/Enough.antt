@@ -1,7 +1,8 @@
--- What a caller must fetch of an image: its first 17,408 bytes for every answer but a page's bytes, and for those the file's own blocks.
--- Directory and map lie in the first 17,408 bytes, so entries and chains agree; a content is read from its chain's blocks alone. Assumes nothing.
+-- What a caller must fetch of an image: what the check reads, which lies in its first 17,408 bytes, for every answer but a page's bytes, and for those the
+-- file's own blocks. Entries and chains agree where directory and map do; a content is read from its chain's blocks alone. Assumes nothing.
 use mathlib.Core.Path.{_≡_, refl, sym, ap, _∙_}
-use mathlib.Core.Bool.{Bool, true, false, not}
+use mathlib.Core.Bool.{Bool, true, false, not, true≢false}
+use mathlib.Core.Logic.{inl, inr}
 use mathlib.Core.List.{List, [], _∷_}
 use mathlib.Core.Option.{Option, none, some}
 use Prim.Native.Nat.{ℕ, _-_, _≤_, _<_}
@@ -17,15 +18,18 @@ use Rattle.laws.specs.declared.Counted.the-variants as counted
 use Rattle.laws.specs.Refusals.{refusalAt, Filled}
 use Rattle.laws.specs.Lemmas.Refusals.{refused-done}
 use Rattle.laws.specs.Member.{In}
+use Rattle.laws.specs.Lemmas.Truth.{false-if}
 use Rattle.laws.specs.Lemmas.Scan.{lowest-cong}
 use Rattle.laws.specs.declared.Lowest.{Lowest}
 use Rattle.laws.specs.Splice.{part}
 use Rattle.laws.specs.Lemmas.Splice.{part-splice}
 use Rattle.laws.specs.Reader.{bytes}
 use Rattle.layout.specs.declared.Kind.{Kind}
+use Rattle.layout.specs.declared.Kind.the-variants.{S900, S1000, S3000}
 use Rattle.layout.specs.declared.Density.{Density}
+use Rattle.layout.specs.declared.Density.the-variants.{Low, High}
 use Rattle.layout.specs.declared.Layout.{Layout}
-use Rattle.layout.specs.Layouts.{layoutOf, headLength}
+use Rattle.layout.specs.Layouts.{layoutOf, lengthOf, headLength, blockOffset}
 use Rattle.layout.specs.Right.{LayoutRight, layout-right}
 use Rattle.blocks.specs.Blocks.{linksFor, blockAt}
 use Rattle.blocks.specs.Lemmas.Blocks.{read-cong}
@@ -33,7 +37,7 @@ use Rattle.names.specs.Names.{legalName}
 use Rattle.map.specs.Map.{mapAt}
 use Rattle.map.specs.Lemmas.Chains.{length-chain, chain-cong, chain-data, chain-short}
 use Rattle.view.specs.Disk.{File, used, entryChain, chainOf, contentOf, filesOf}
-use Rattle.image.specs.Image.{viewOf, filesIn, DiskRules}
+use Rattle.image.specs.Image.{viewOf, filesIn, PassedOver, InUse, DiskRules}
 use Rattle.record.specs.Record.{Call, list, find, page, refusedBy, Outcome, named, refuseIf, orRefuse, slotOf, fileAt, judgeName, listing, paging}
 use Rattle.record.specs.Lemmas.Step.{list-output}
 use Rattle.record.specs.declared.Judged.{Judged}
@@ -41,18 +45,41 @@ use Rattle.record.specs.declared.Judged.the-variants.{Grant}
 use Rattle.rules.specs.declared.Checked.{Checked}
 use Rattle.rules.specs.declared.Checked.the-variants.{Accepted, Refused}
 use Rattle.rules.specs.Check.{checkOf, refusalOf, lent, came, unaccepted, callOf}
-use Rattle.rules.specs.Accepted.{accepted-rules}
-use Rattle.rules.specs.Head.{Read, read-head, head-agree, head-decides, same-map, same-entry}
+use Rattle.rules.specs.Accepted.{length-of, accepted-rules}
+use Rattle.rules.specs.Head.{Read, read-head, head-agree, check-reads, same-map, same-entry}
 use Rattle.calls.specs.Answers.{foundOf, foundBy}
 use Rattle.calls.specs.Lemmas.Answers.{call-refused}
 use Rattle.calls.specs.Lemmas.Slots.{file-above, file-empty, file-used, file-length}
 use Rattle.calls.specs.Lemmas.Done.{list-done, find-done, page-done}
 use Rattle.locate.specs.Locate.{fileBlocks, storing, blocksBy, blocksOf}
 
--- y has x's length and x's first 17,408 bytes.
-pub record SameHead (x y : List ℕ) : Type 0 where
+-- y has x's length, and x's bytes wherever the check of x may look: slot 0's type in the first directory, the directory in use, the map.
+pub record SameRead (x y : List ℕ) : Type 0 where
   pub size : length y ≡ length x
-  pub head : take headLength y ≡ take headLength x
+  pub type : bytes y 16 ≡ bytes x 16
+  pub read : (k : Kind) (d : Density) (i : ℕ) → length x ≡ lengthOf d → InUse (layoutOf k d) (bytes x) → Read (layoutOf k d) i → bytes y i ≡ bytes x i
+
+-- The first 17,408 bytes have all of these.
+pub head-enough : (x y : List ℕ) → length y ≡ length x → take headLength y ≡ take headLength x → SameRead x y
+head-enough x y n e = record { size = n; type = head-agree x y e 16 (omega arith); read = λ k d i size here r. head-agree x y e i (read-head k d i r) }
+
+-- On an image that uses the first directory, which all S900 and S1000 disks are, the first 5,120 bytes do.
+pub first-enough : (x y : List ℕ) → (PassedOver (bytes x) → ⊥) → length y ≡ length x → ((i : ℕ) → i < 5120 → bytes y i ≡ bytes x i) → SameRead x y
+first-enough x y own n e = record { size = n; type = e 16 (omega arith); read = λ k d i size here r. e i (below k d here r) }
+  where
+    low : (k : Kind) (d : Density) → layoutOf k d .second ≡ false → blockOffset (layoutOf k d .first) ≤ 5120
+    low S900 Low s = omega arith
+    low S900 High s = omega arith
+    low S1000 Low s = omega arith
+    low S1000 High s = omega arith
+    low S3000 d s = absurd (true≢false s)
+
+    first : (k : Kind) (d : Density) → InUse (layoutOf k d) (bytes x) → layoutOf k d .second ≡ false
+    first k d here = false-if (layoutOf k d .second) (λ t. own (here .passed-over .1 t))
+
+    below : (k : Kind) (d : Density) {i : ℕ} → InUse (layoutOf k d) (bytes x) → Read (layoutOf k d) i → i < 5120
+    below k d here (inl p) = omega (arith, p .1, layout-right k d .directory-low, low k d (first k d here))
+    below k d here (inr p) = omega (arith, p .1, layout-right k d .map-low, low k d (first k d here))
 
 -- A count, 0 where a call was refused.
 abbrev pub countIn : Counted → ℕ
@@ -72,9 +99,9 @@ pub record Alike (x y : List ℕ) (c : Call) : Type 0 where
   pub answer : callOf y c .answer ≡ callOf x c .answer
   pub output : callOf y c .output ≡ callOf x c .output
 
-module _ (x y : List ℕ) (same : SameHead x y) where
+module _ (x y : List ℕ) (same : SameRead x y) where
   check-same : checkOf y ≡ checkOf x
-  check-same = head-decides y x (same .size) (same .head)
+  check-same = check-reads x y (same .size) (same .type) (same .read)
 
   -- ---- accepted images
 
@@ -95,7 +122,7 @@ module _ (x y : List ℕ) (same : SameHead x y) where
     rules-y = accepted-rules k d f n y yes-y
 
     agree : (i : ℕ) → Read l i → bytes y i ≡ bytes x i
-    agree i r = head-agree x y (same .head) i (read-head k d i r)
+    agree i = same .read k d i (rules-x .size ∙ length-of k d) (rules-x .kind .in-use)
 
     entry-same : (s : ℕ) → s < l .slots → viewOf l (bytes y) .entry s ≡ viewOf l (bytes x) .entry s
     entry-same = same-entry (bytes x) (bytes y) l right agree
@@ -174,9 +201,9 @@ given-all (b ∷ bs) room n = go (ltb (length room) (length (b ∷ bs))) refl
     go true e = absurd (n (rw e refl))
     go false e = rw e (part-splice room 0 (b ∷ bs) (omega (arith, ltb-false (length room) (length (b ∷ bs)) e)))
 
--- ---- the theorems: y has x's length and first 17,408 bytes
+-- ---- the theorems: y has what the check of x reads
 
-module _ (x y : List ℕ) (same : SameHead x y) where
+module _ (x y : List ℕ) (same : SameRead x y) where
   -- c being a call that a refused image answers with the check's refusal
   refused-alike : {r : Refusal} → checkOf x ≡ Refused r → (c : Call) → ((z : List ℕ) (q : Refusal) → unaccepted q z c ≡ came (refusedBy q) (lent c) z) → Alike x y c
   refused-alike e c plain =
@@ -188,7 +215,7 @@ module _ (x y : List ℕ) (same : SameHead x y) where
         output = ap (λ (o : Outcome (List ℕ)). o .output) (sym b) ∙ ap (λ (o : Outcome (List ℕ)). o .output) a;
       }
 
-  -- A list answers from them alone.
+  -- A list answers from that alone.
   pub list-enough : (s : ℕ) → Alike x y (list s)
   list-enough s = go (checkOf x) refl
     where
