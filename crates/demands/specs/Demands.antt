@@ -15,19 +15,21 @@ use mathlib.Core.Path.{_≡_, refl}
 use mathlib.Core.Bool.{true, false}
 use mathlib.Core.List.{List, [], _∷_, _++_, map}
 use mathlib.Core.Option.{none, some}
-use mathlib.Core.Logic.{_↔_, _⊎_}
+use mathlib.Core.Logic.{_↔_, _⊎_, inl, inr}
 use Prim.Native.Nat.{ℕ, _+_, _-_, _*_, _/_, _≤_, _<_, min}
 use native.Mathlib.Omega.{arith}
 use lib.Dec.{eqb}
 use lib.IntN.{ℤ}
 use lib.ListN.{length, getD, take, drop, replicate}
 use lib.Seq.{sets}
+use borrow.Author.Tests.{le-ltb}
 use Rattle.laws.specs.declared.Lowest.the-variants.{At, Nowhere}
 use Rattle.laws.specs.declared.Refusal.{Refusal}
 use Rattle.laws.specs.declared.Counted.the-variants.{Done}
 use Rattle.laws.specs.declared.Counted.the-variants as counted
 use Rattle.laws.specs.Refusals.{refusalAt, filled, unless}
 use Rattle.laws.specs.Truth.{pick}
+use Rattle.laws.specs.Lemmas.Truth.{clash}
 use Rattle.laws.specs.Scan.{total, count}
 use Rattle.laws.specs.Splice.{splice, part}
 use Rattle.laws.specs.Reader.{bytes, tab}
@@ -49,9 +51,9 @@ use Rattle.names.specs.NameLaws as names
 use Rattle.map.specs.Map.{mapAt, freeCount, Data, chain, Astray, Miscounted}
 use Rattle.map.specs.Values as values
 use Rattle.map.specs.Values.{Other, Reaches}
-use Rattle.view.specs.Disk.{View, Entry, File, formed, owned, contentOf, takes, Owns}
+use Rattle.view.specs.Disk.{View, Entry, File, used, formed, owned, contentOf, takes, Owns}
 use Rattle.view.specs.Rules.{badSystem, stray}
-use Rattle.view.specs.Broken.{Breaks, owner}
+use Rattle.view.specs.Broken.{Breaks, legal, owner}
 use Rattle.image.specs.Image.{viewOf, filesIn, PassedOver, InUse, OfKind, DiskRules, erased, removeImage, newEntry}
 use Rattle.image.specs.Outside.{Within, InEntry, InMap}
 use Rattle.salvage.specs.Salvage.{drops, diskAfter, reportOf, survivors, salvageImage, mapChanges, reportAfter}
@@ -524,10 +526,18 @@ first-unread x y known same = unread.first-unread S3000 High refl x y known same
 pub first-kept : (img : List ℕ) → knownOf img ≡ Disk S3000 High → (i : ℕ) → i < 1536 → (c : Call) → bytes (callOf img c .state) i ≡ bytes img i
 first-kept img known i low = unread.first-kept S3000 High refl img known i low
 
--- A used slot is well formed exactly so: legal name and 0,0,0,2, type, length, identity 0,12. Of an empty slot none of this is asked (`Breaks`).
+-- Nor, on an accepted disk, what lies between the map and the directory in use, where the volume label is.
+pub s3000-label-kept : (f n : ℕ) (img : List ℕ) → checkOf img ≡ Accepted S3000 High f n → (c : Call) (i : ℕ) → 4736 ≤ i → i < 5120 → bytes (callOf img c .state) i ≡ bytes img i
+s3000-label-kept f n img accept c i p q = outside.system-kept S3000 High f n img accept c i (omega arith) (inr p) (inl q)
+
+-- A used slot is well formed exactly so: legal name and 0,0,0,2, type, length, identity 0,12.
 pub s3000-formed : (e : Entry)
     → (formed (layoutOf S3000 High) e ≡ true) ↔ ((legalArea (layoutOf S3000 High) (e .area) ≡ true) × ((193 ≤ e .type) × (e .type ≤ 218)) × (1 ≤ e .size) × (e .identity ≡ 3072))
 s3000-formed e = second.formed-exactly (layoutOf S3000 High) e
+
+-- Of an empty slot none of this is asked: whatever its identity, it is no fault.
+pub empty-unjudged : (v : View) (slot : ℕ) → used (v .entry slot) ≡ false → (number : ℕ) → Breaks (layoutOf S3000 High) v legal number slot → ⊥
+empty-unjudged v slot empty number broken = clash (broken .1 .1) empty
 
 -- Put writes the slot whole: the name's letters and 0,0,0,2, the type byte itself, the length, and 0,12 over whatever identity stood there.
 pub s3000-put : (f n : ℕ) (img : List ℕ) → checkOf img ≡ Accepted S3000 High f n → (name : List ℕ) (type : ℕ) (content : List ℕ) (slot : ℕ) → callOf img (put name type content) .answer ≡ valued slot
@@ -547,7 +557,12 @@ pub identity-kept : (k : Kind) (d : Density) (f n : ℕ) (img : List ℕ) → ch
     → (c : Call) (s i : ℕ) → s < layoutOf k d .slots → Within (slotOffset (layoutOf k d) s + 22) 2 i → bytes (callOf img c .state) i ≡ bytes img i
 identity-kept k d f n img accept own small c s i = outside.identity-kept k d f n img accept c i own small s
 
--- 512 slots: list, find and page know no other, and salvage asks for as many bytes of report. All 17 system values are restored (`salvage-system`).
+-- 512 slots: no other holds a file, so that list and page answer 10 (`page-missing`); put answers 14 where all are used (`put-full`), and salvage asks for as
+-- many bytes of report. All 17 system values are restored (`salvage-system`).
+pub s3000-slots : (files : Files) (slot : ℕ) → 512 ≤ slot → fileAt (layoutOf S3000 High) files slot ≡ none
+unfolding fileAt
+s3000-slots files slot above = rw (le-ltb slot 512 above) refl
+
 pub s3000-past : (f n : ℕ) (img : List ℕ) → checkOf img ≡ Accepted S3000 High f n → (slot : ℕ) → 512 ≤ slot → callOf img (list slot) .answer ≡ refused 10 0
 s3000-past f n img accept slot above = second.list-past S3000 High f n img accept slot above
 
