@@ -6,7 +6,7 @@ use crate::disks::{Order, disk, high};
 use crate::race::{Runner, race};
 use crate::s3000;
 use crate::table::Table;
-use model::faults::{FAULTS, spoil};
+use model::faults::{OF_KNOWN_KIND, spoil};
 use model::layout::{BLOCK, Kind, SLOTS};
 use model::random::Random;
 use std::time::{Duration, Instant};
@@ -36,7 +36,7 @@ fn both(table: &mut Table, kind: &str, damaged: Vec<u8>, accepted: Vec<u8>, slot
 fn damage(accepted: &[u8]) -> Vec<u8> {
     let (mut image, mut random) = (accepted.to_vec(), Random::new(2));
     let disk = model::disk::read(accepted).expect("accepted");
-    for &fault in &FAULTS[2..] {
+    for &fault in OF_KNOWN_KIND {
         spoil(&mut image, &disk, fault, &mut random);
     }
     image
