@@ -4,11 +4,13 @@ use mathlib.Core.Bool.{Bool}
 use mathlib.Core.List.{List}
 use Prim.Native.Nat.{ℕ, _-_}
 use Rattle.laws.specs.Scan.{lowest, count}
+use Rattle.laws.specs.declared.Counted.{Counted}
+use Rattle.laws.specs.declared.Counted.the-variants.{Done, Refused}
 use Rattle.layout.specs.declared.Layout.{Layout}
 use Rattle.map.specs.Map.{faultOf, Marks}
 use Rattle.view.specs.Disk.{View, owned}
 use Rattle.view.specs.declared.Ruled.{Ruled}
-use Rattle.view.specs.declared.Ruled.the-variants.{Pass}
+use Rattle.view.specs.declared.Ruled.the-variants.{Pass, Fail}
 use Rattle.view.specs.Rules.{walkOf, broken, sharing, stray, orFail}
 use Rattle.laws.specs.Member.{has}
 
@@ -20,6 +22,11 @@ chainRules l v =
     (orFail (λ s. 8) (lowest (sharing l v) 0 (l .slots))
     (orFail (λ b. 9) (lowest (stray l v) (l .first) (l .blocks - l .first))
     Pass))
+
+-- The refusal, else the number of free blocks.
+abbrev pub orFree : Ruled → ℕ → Counted
+orFree Pass n = Done n
+orFree (Fail r) n = Refused r
 
 -- The fault of the lowest slot whose chain has one, and, where there is none, the marks of all chains.
 pub record Followed (l : Layout) (v : View) (marks : List Bool) (r : Ruled) : Type 0 where

@@ -14,7 +14,7 @@ ghost use Rattle.map.specs.Map.{mapAt, freeCount, Marks};
 ghost use Rattle.view.specs.Disk.{owned};
 ghost use Rattle.view.specs.Rules.{badSystem, broken, sharing, stray};
 ghost use Rattle.image.specs.Image.{viewOf};
-ghost use Rattle.chains.specs.Passes.{Followed, chainRules, taken};
+ghost use Rattle.chains.specs.Passes.{Followed, chainRules, orFree, taken};
 
 // The lowest system block that doesn't hold the system value (refusal 3).
 pub fn system_fault(head: &[u8], layout: layout::Layout) -> laws::Lowest
@@ -189,7 +189,7 @@ fn stray_fault(head: &[u8], layout: layout::Layout, marks: &[bool; 1600]) -> law
 }
 
 // The number of free blocks. Counted in 16 bits, so that the compiler adds eight at a time.
-pub fn count_free(head: &[u8], layout: layout::Layout) -> usize
+fn count_free(head: &[u8], layout: layout::Layout) -> usize
     requires { ⌜ LayoutRight layout × (blockOffset (layout .first) ≤ length (now head)) ⌝ }
     ensures { λ r. ⌜ r ≡ freeCount layout (mapAt (bytes (now (head .entry)))) ⌝ }
 {
@@ -211,41 +211,43 @@ fn stray_block(
     layout: layout::Layout,
     marks: &[bool; 1600],
     marked: usize,
+    free: usize,
 ) -> laws::Lowest
-    requires { ⌜ LayoutRight layout × (blockOffset (layout .first) ≤ length (now head)) × (lowest (broken layout (viewOf layout (bytes (now head)))) 0 (layout .slots) ≡ Nowhere) × (marked ≡ taken layout (viewOf layout (bytes (now head)))) × Marks 1600 (now marks) (owned (viewOf layout (bytes (now head))) (layout .slots)) ⌝ }
+    requires { ⌜ LayoutRight layout × (blockOffset (layout .first) ≤ length (now head)) × (lowest (broken layout (viewOf layout (bytes (now head)))) 0 (layout .slots) ≡ Nowhere) × (marked ≡ taken layout (viewOf layout (bytes (now head)))) × (free ≡ freeCount layout (mapAt (bytes (now head)))) × Marks 1600 (now marks) (owned (viewOf layout (bytes (now head))) (layout .slots)) ⌝ }
     ensures { λ r. ⌜ r ≡ lowest (stray layout (viewOf layout (bytes (now (head .entry))))) (layout .first) (layout .blocks - layout .first) ⌝ }
 {
-    let left = layout.blocks - layout.first - count_free(head, layout);
+    let left = layout.blocks - layout.first - free;
     if marked == left {
         return laws::Lowest::Nowhere;
     }
     stray_fault(head, layout, marks)
 }
 
-// Refusals 6 to 9: the chains, then what they share, then blocks on none of them.
-pub fn chain_rules(head: &[u8], layout: layout::Layout) -> view::Ruled
+// Refusals 6 to 9: the chains, then what they share, then blocks on none of them; else the number of free blocks, which the last step counts.
+pub fn chain_rules(head: &[u8], layout: layout::Layout) -> laws::Counted
     requires { ⌜ LayoutRight layout × (blockOffset (layout .first) ≤ length (now head)) ⌝ }
-    ensures { λ r. ⌜ r ≡ chainRules layout (viewOf layout (bytes (now (head .entry)))) ⌝ }
+    ensures { λ r. ⌜ r ≡ orFree (chainRules layout (viewOf layout (bytes (now (head .entry))))) (freeCount layout (mapAt (bytes (now (head .entry))))) ⌝ }
 {
     let mut marks = [false; 1600];
     let fault = chain_fault(head, layout, &mut marks);
-    let view::Ruled::Pass = fault else {
-        return fault;
-    };
+    if let view::Ruled::Fail(refusal) = fault {
+        return laws::Counted::Refused(refusal);
+    }
     let marked = count_marked(layout, &marks);
     let shared = shared_slot(head, layout, marked);
     if let laws::Lowest::At(slot) = shared {
-        return view::Ruled::Fail(laws::Refusal {
+        return laws::Counted::Refused(laws::Refusal {
             number: 8,
             place: slot,
         });
     }
-    let stray = stray_block(head, layout, &marks, marked);
+    let free = count_free(head, layout);
+    let stray = stray_block(head, layout, &marks, marked, free);
     if let laws::Lowest::At(block) = stray {
-        return view::Ruled::Fail(laws::Refusal {
+        return laws::Counted::Refused(laws::Refusal {
             number: 9,
             place: block,
         });
     }
-    view::Ruled::Pass
+    laws::Counted::Done(free)
 }

@@ -4,62 +4,64 @@ ghost use mathlib.Core.Path.{_≡_};
 ghost use Prim.Native.Nat.{_≤_};
 ghost use lib.ListN.{length};
 ghost use Rattle.laws.specs.Reader.{bytes};
-ghost use Rattle.layout.specs.Layouts.{headLength, blockOffset};
-ghost use Rattle.layout.specs.Right.{LayoutRight};
-ghost use Rattle.view.specs.Rules.{rules};
-ghost use Rattle.image.specs.Image.{viewOf};
+ghost use Rattle.laws.specs.Scan.{lowest};
 ghost use Rattle.laws.specs.Refusals.{refusalAt};
+ghost use Rattle.laws.specs.declared.Lowest.the-variants.{Nowhere};
+ghost use Rattle.laws.specs.declared.Counted.the-variants.{Done};
+ghost use Rattle.layout.specs.Layouts.{layoutOf, headLength};
+ghost use Rattle.view.specs.Rules.{badSystem, malformed};
+ghost use Rattle.image.specs.Image.{viewOf};
+ghost use Rattle.slots.specs.Forms.{orUsed};
 ghost use Rattle.rules.specs.declared.Known.the-variants.{Disk, Unknown};
-ghost use Rattle.rules.specs.Check.{orUnknown, secondKind, knownKind, knownStart, checkAs, checkOf, checkStart};
+ghost use Rattle.rules.specs.Check.{orUnknown, secondKind, knownKind, knownStart, usedCount, checkAs, checkOf, checkStart};
 
-// Refusals 3 to 9 of a layout.
-fn disk_rules(head: &[u8], layout: layout::Layout) -> view::Ruled
-    requires { ⌜ LayoutRight layout × (blockOffset (layout .first) ≤ length (now head)) ⌝ }
-    ensures { λ r. ⌜ r ≡ rules layout (viewOf layout (bytes (now (head .entry)))) ⌝ }
+// Refusals 5 to 9 of an image that 3 and 4 don't refuse, else what is found: its used slots were counted.
+fn check_names(
+    head: &[u8],
+    layout: layout::Layout,
+    kind: layout::Kind,
+    density: layout::Density,
+    files: usize,
+) -> rules::Checked
+    requires { ⌜ (headLength ≤ length (now head)) × (layout ≡ layoutOf kind density) × (lowest (badSystem layout (viewOf layout (bytes (now head)))) 0 (layout .system) ≡ Nowhere) × (Done files ≡ orUsed (lowest (malformed layout (viewOf layout (bytes (now head)))) 0 (layout .slots)) (usedCount layout (viewOf layout (bytes (now head))))) ⌝ }
+    ensures { λ r. ⌜ r ≡ checkAs kind density (bytes (now (head .entry))) ⌝ }
 {
-    let system = chains::system_fault(head, layout);
-    if let laws::Lowest::At(block) = system {
-        return view::Ruled::Fail(laws::Refusal {
-            number: 3,
-            place: block,
-        });
-    }
-    let malformed = slots::form_fault(head, layout);
-    if let laws::Lowest::At(slot) = malformed {
-        return view::Ruled::Fail(laws::Refusal {
-            number: 4,
-            place: slot,
-        });
-    }
     let repeated = slots::name_fault(head, layout);
     if let laws::Lowest::At(slot) = repeated {
-        return view::Ruled::Fail(laws::Refusal {
+        return rules::Checked::Refused(laws::Refusal {
             number: 5,
             place: slot,
         });
     }
-    chains::chain_rules(head, layout)
+    let chained = chains::chain_rules(head, layout);
+    match chained {
+        laws::Counted::Done(free) => rules::Checked::Accepted {
+            kind,
+            density,
+            files,
+            free,
+        },
+        laws::Counted::Refused(refusal) => rules::Checked::Refused(refusal),
+    }
 }
 
-// The check of an image of a known kind and density.
+// The check of an image of a known kind and density: 3, then 4, then the rest.
 fn check_as(head: &[u8], kind: layout::Kind, density: layout::Density) -> rules::Checked
     requires { ⌜ headLength ≤ length (now head) ⌝ }
     ensures { λ r. ⌜ r ≡ checkAs kind density (bytes (now (head .entry))) ⌝ }
 {
     let layout = layout::layout_of(kind, density);
-    let ruled = disk_rules(head, layout);
-    match ruled {
-        view::Ruled::Pass => {
-            let files = slots::count_used(head, layout);
-            let free = chains::count_free(head, layout);
-            rules::Checked::Accepted {
-                kind,
-                density,
-                files,
-                free,
-            }
-        }
-        view::Ruled::Fail(refusal) => rules::Checked::Refused(refusal),
+    let system = chains::system_fault(head, layout);
+    if let laws::Lowest::At(block) = system {
+        return rules::Checked::Refused(laws::Refusal {
+            number: 3,
+            place: block,
+        });
+    }
+    let formed = slots::count_formed(head, layout);
+    match formed {
+        laws::Counted::Done(files) => check_names(head, layout, kind, density, files),
+        laws::Counted::Refused(refusal) => rules::Checked::Refused(refusal),
     }
 }
 

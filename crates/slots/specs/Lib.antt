@@ -1,3 +1,4 @@
+pub mod Forms
 pub mod Keys
 pub mod Hashes
 pub mod Lemmas

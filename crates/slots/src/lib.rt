@@ -12,6 +12,7 @@ ghost use Rattle.view.specs.Disk.{used};
 ghost use Rattle.view.specs.Rules.{malformed, hasNameOf, repeated};
 ghost use Rattle.image.specs.Image.{viewOf};
 ghost use Rattle.rules.specs.Check.{passedOver, hasIdentity, usedCount};
+ghost use Rattle.slots.specs.Forms.{orUsed};
 ghost use Rattle.slots.specs.Keys.{Key, hasKeys};
 ghost use Rattle.slots.specs.Hashes.{hasHashOf, highest, Hash, Tops, Lowers, Turn};
 
@@ -107,20 +108,27 @@ pub fn is_malformed(head: &[u8], layout: layout::Layout, slot: usize) -> bool
     !names::is_area(layout, &head[at..end])
 }
 
-// The lowest malformed slot (refusal 4).
-pub fn form_fault(head: &[u8], layout: layout::Layout) -> laws::Lowest
+// The number of used slots, or refusal 4 at the lowest malformed one.
+pub fn count_formed(head: &[u8], layout: layout::Layout) -> laws::Counted
     requires { ⌜ LayoutRight layout × (slotOffset layout (layout .slots) ≤ length (now head)) ⌝ }
-    ensures { λ r. ⌜ r ≡ lowest (malformed layout (viewOf layout (bytes (now (head .entry))))) 0 (layout .slots) ⌝ }
+    ensures { λ r. ⌜ r ≡ orUsed (lowest (malformed layout (viewOf layout (bytes (now (head .entry))))) 0 (layout .slots)) (usedCount layout (viewOf layout (bytes (now (head .entry))))) ⌝ }
 {
     let slots = layout.slots;
+    let mut counted = 0;
     let mut slot = 0;
     while slot < slots {
         if is_malformed(head, layout, slot) {
-            return laws::Lowest::At(slot);
+            return laws::Counted::Refused(laws::Refusal {
+                number: 4,
+                place: slot,
+            });
+        }
+        if is_used(head, layout, slot) {
+            counted += 1;
         }
         slot += 1;
     }
-    laws::Lowest::Nowhere
+    laws::Counted::Done(counted)
 }
 
 // Half a name's area as one number: eight bytes compare at once.
@@ -155,43 +163,6 @@ pub fn find_keys(head: &[u8], layout: layout::Layout, low: usize, high: usize) -
     let mut slot = 0;
     while slot < end {
         if has_keys(head, layout, slot, low, high) {
-            return laws::Lowest::At(slot);
-        }
-        slot += 1;
-    }
-    laws::Lowest::Nowhere
-}
-
-// Whether a slot is used and its name stands in a lower used slot. Its keys are read once.
-fn is_repeated(head: &[u8], layout: layout::Layout, slot: usize) -> bool
-    requires { ⌜ slotOffset layout slot + 24 ≤ length (now head) ⌝ }
-    ensures { λ r. ⌜ r ≡ repeated layout (viewOf layout (bytes (now (head .entry)))) slot ⌝ }
-{
-    if !is_used(head, layout, slot) {
-        return false;
-    }
-    let at = layout.directory + 24 * slot;
-    let low = key(head, at);
-    let high = key(head, at + 8);
-    let mut lower = 0;
-    while lower < slot {
-        if has_keys(head, layout, lower, low, high) {
-            return true;
-        }
-        lower += 1;
-    }
-    false
-}
-
-// The lowest slot whose name stands in a lower used slot, each compared with all lower ones.
-fn pair_fault(head: &[u8], layout: layout::Layout) -> laws::Lowest
-    requires { ⌜ LayoutRight layout × (slotOffset layout (layout .slots) ≤ length (now head)) ⌝ }
-    ensures { λ r. ⌜ r ≡ lowest (repeated layout (viewOf layout (bytes (now (head .entry))))) 0 (layout .slots) ⌝ }
-{
-    let slots = layout.slots;
-    let mut slot = 0;
-    while slot < slots {
-        if is_repeated(head, layout, slot) {
             return laws::Lowest::At(slot);
         }
         slot += 1;
@@ -246,7 +217,7 @@ fn stands_below(
 }
 
 // Whether a slot is used and its name stands in a lower used slot. The table takes the slot.
-fn repeats(
+pub fn repeats(
     head: &[u8],
     layout: layout::Layout,
     tops: &mut [u16; 1009],
@@ -267,48 +238,23 @@ fn repeats(
     found
 }
 
-// The lowest slot whose name stands in a lower used slot, by a table of hashes: for each hash the highest slot so far, for each slot the next lower one
-// with its hash. Both stand there plus 1; 0 is none.
-fn hash_fault(head: &[u8], layout: layout::Layout) -> laws::Lowest
+// The lowest slot whose name stands in a lower used slot (refusal 5), by a table of hashes: for each hash the highest slot so far, for each slot the
+// next lower one with its hash. Both stand there plus 1; 0 is none.
+pub fn name_fault(head: &[u8], layout: layout::Layout) -> laws::Lowest
     requires { ⌜ LayoutRight layout × (slotOffset layout (layout .slots) ≤ length (now head)) ⌝ }
     ensures { λ r. ⌜ r ≡ lowest (repeated layout (viewOf layout (bytes (now (head .entry))))) 0 (layout .slots) ⌝ }
 {
-    let slots = layout.slots;
+    let count = layout.slots;
     let mut tops = [0u16; 1009];
     let mut lowers = [0u16; 512];
     let mut slot = 0;
-    while slot < slots {
+    while slot < count {
         if repeats(head, layout, &mut tops, &mut lowers, slot) {
             return laws::Lowest::At(slot);
         }
         slot += 1;
     }
     laws::Lowest::Nowhere
-}
-
-// Whether a directory of up to 64 slots has few files, as far as slot 15 tells: slots are filled from the lowest on. Only time hangs on it.
-fn seems_sparse(head: &[u8], layout: layout::Layout) -> bool
-    requires { ⌜ slotOffset layout (layout .slots) ≤ length (now head) ⌝ }
-{
-    let slots = layout.slots;
-    if slots > 64 {
-        return false;
-    }
-    if slots <= 15 {
-        return true;
-    }
-    !is_used(head, layout, 15)
-}
-
-// The lowest slot whose name stands in a lower used slot (refusal 5). A few files are compared in pairs sooner than the table is cleared.
-pub fn name_fault(head: &[u8], layout: layout::Layout) -> laws::Lowest
-    requires { ⌜ LayoutRight layout × (slotOffset layout (layout .slots) ≤ length (now head)) ⌝ }
-    ensures { λ r. ⌜ r ≡ lowest (repeated layout (viewOf layout (bytes (now (head .entry))))) 0 (layout .slots) ⌝ }
-{
-    if seems_sparse(head, layout) {
-        return pair_fault(head, layout);
-    }
-    hash_fault(head, layout)
 }
 
 // The lowest empty slot.
@@ -325,21 +271,4 @@ pub fn empty_slot(head: &[u8], layout: layout::Layout) -> laws::Lowest
         slot += 1;
     }
     laws::Lowest::Nowhere
-}
-
-// The number of used slots.
-pub fn count_used(head: &[u8], layout: layout::Layout) -> usize
-    requires { ⌜ LayoutRight layout × (slotOffset layout (layout .slots) ≤ length (now head)) ⌝ }
-    ensures { λ r. ⌜ r ≡ usedCount layout (viewOf layout (bytes (now (head .entry)))) ⌝ }
-{
-    let slots = layout.slots;
-    let mut count = 0;
-    let mut slot = 0;
-    while slot < slots {
-        if is_used(head, layout, slot) {
-            count += 1;
-        }
-        slot += 1;
-    }
-    count
 }

@@ -3,29 +3,27 @@
 use mathlib.Core.Path.{sym}
 use Prim.Native.Nat.{_-_, _≤_}
 use native.Mathlib.Omega.{arith}
+use denote.Ref.{now}
 use borrow.Author.Needs.{needs}
 use Rattle.laws.specs.Reader.{bytes}
-use Rattle.map.specs.Map.{mapAt, freeCount}
+use Rattle.map.specs.Map.{mapAt}
 use Rattle.image.specs.Image.{viewOf}
 use Rattle.chains.specs.Lemmas.Tally.{free-most, tally-all}
 use Rattle.chains.proofs.stray_block.Statement.{statement}
 use Rattle.chains.proofs.stray_block.Tie as tie
 
 -- no more blocks are free than there are
-most : (c : tie.After-count-free) → (let a = c .before .before .before .args in freeCount (a .layout) (mapAt (bytes (a .head .now))) ≤ a .layout .blocks - a .layout .first)
-most c = let a = c .before .before .before .args in free-most (a .layout) (mapAt (bytes (a .head .now)))
+most : (s : tie.Start) → s .args .free ≤ s .args .layout .blocks - s .args .layout .first
+most s = omega (arith, s .pre .4, free-most (s .args .layout) (mapAt (bytes (now (s .args .head)))))
 
 sub-left-2 : tie.Need-sub-left-2
-sub-left-2 c = omega (arith, c .count-free .ensures, most c)
+sub-left-2 c = most (c .before .before)
 
 returns : tie.Need-returns
 returns c =
-    let s = c .before .before .before .before in
+    let s = c .before .before .before in
     let a = s .args in
-    let v = viewOf (a .layout) (bytes (a .head .now)) in
-    sym (tally-all (a .layout) (s .pre .0) v (s .pre .2) (omega (arith, s .pre .3, c .if1 .taken, c .before .count-free .ensures, most (c .before))))
+    sym (tally-all (a .layout) (s .pre .0) (viewOf (a .layout) (bytes (now (a .head)))) (s .pre .2) (omega (arith, s .pre .3, s .pre .4, c .if1 .taken, most s)))
 
 pub stray-block-spec : {M : Type 1} → statement M
-stray-block-spec =
-    tie.close
-    (tie.spec (λ c. search needs) (λ c κs. search needs) sub-left-2 returns (λ c κs. search needs) (λ c. search needs))
+stray-block-spec = tie.close (tie.spec (λ c. search needs) sub-left-2 returns (λ c κs. search needs) (λ c. search needs))

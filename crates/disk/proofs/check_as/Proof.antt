@@ -1,51 +1,64 @@
--- `disk::check_as` meets its contract: the rules' refusal, or kind and density with the files and free blocks counted.
--- By the rules' answer. Assumes nothing.
+-- `disk::check_as` meets its contract: system values, then slots, then the rest, by the layout of the kind and the density.
+-- Each pass's answer decides the cascade's next step. Assumes nothing.
+use mathlib.Core.Path.{sym, _∙_}
 use denote.Ref.{now}
 use borrow.Author.Needs.{needs}
 use Rattle.laws.specs.Reader.{bytes}
-use Rattle.disk.specs.Lemmas.Steps.{made-right, first-held, directory-held, as-pass, as-fail}
+use Rattle.disk.specs.Lemmas.Steps.{made-right, first-held, directory-held, check-system, check-form}
 use Rattle.disk.proofs.check_as.Statement.{statement}
 use Rattle.disk.proofs.check_as.Tie as tie
 
-disk-rules-requires : tie.Need-disk-rules-requires
-disk-rules-requires c κs =
-    let p = c .before .before in
-    (made-right (p .args .kind) (p .args .density) (c .layout-of .ensures), first-held (p .args .kind) (p .args .density) (c .layout-of .ensures) (p .pre))
-
-count-used-requires : tie.Need-count-used-requires
-count-used-requires c κs =
-    let y = c .before .before .before in
-    let p = y .before .before in
-    (made-right (p .args .kind) (p .args .density) (y .layout-of .ensures), directory-held (p .args .kind) (p .args .density) (y .layout-of .ensures) (p .pre))
-
-count-free-requires : tie.Need-count-free-requires
-count-free-requires c κs =
-    let y = c .before .before .before .before in
-    let p = y .before .before in
-    (made-right (p .args .kind) (p .args .density) (y .layout-of .ensures), first-held (p .args .kind) (p .args .density) (y .layout-of .ensures) (p .pre))
+system-fault-requires : tie.Need-system-fault-requires
+system-fault-requires c κs =
+    let s = c .before .before in
+    let made = c .layout-of .ensures in
+    (made-right (s .args .kind) (s .args .density) made, first-held (s .args .kind) (s .args .density) made (s .pre))
 
 returns : tie.Need-returns
 returns c =
-    let y = c .before .before .before .before .before in
-    let a = y .before .before .args in
-    as-pass (a .kind) (a .density) (y .layout-of .ensures) (bytes (now (a .head))) (c .before .before .before .before .disk-rules .ensures) (c .before .before .enum-told .given .1) (c .before .count-used .ensures)
-    (c .count-free .ensures)
-
-returns-2 : tie.Need-returns-2
-returns-2 c =
     let y = c .before .before .before .before in
     let a = y .before .before .args in
-    as-fail (a .kind) (a .density) (y .layout-of .ensures) (bytes (now (a .head))) (c .before .before .before .disk-rules .ensures) (c .before .ruled .given .1)
+    check-system (a .kind) (a .density) (y .layout-of .ensures) (bytes (now (a .head))) (c .before .before .before .system-fault .ensures) (c .before .system .given .1)
+
+count-formed-requires : tie.Need-count-formed-requires
+count-formed-requires c κs =
+    let y = c .before .before .before in
+    let s = y .before .before in
+    let made = y .layout-of .ensures in
+    (made-right (s .args .kind) (s .args .density) made, directory-held (s .args .kind) (s .args .density) made (s .pre))
+
+check-names-requires : tie.Need-check-names-requires
+check-names-requires c κs =
+    let f = c .before .before .before in
+    let t = f .before in
+    let y = t .before .before .before in (
+      y .before .before .pre,
+      y .layout-of .ensures,
+      sym (t .before .before .system-fault .ensures) ∙ t .enum-told .given .1,
+      sym (c .before .formed .given .1) ∙ f .count-formed .ensures,
+    )
+
+returns-3 : tie.Need-returns-3
+returns-3 c =
+    let f = c .before .before .before in
+    let t = f .before in
+    let y = t .before .before .before in
+    let a = y .before .before .args in
+    check-form (a .kind) (a .density) (y .layout-of .ensures) (bytes (now (a .head))) (sym (t .before .before .system-fault .ensures) ∙ t .enum-told .given .1) _
+    (sym (c .before .formed2 .given .1) ∙ f .count-formed .ensures)
 
 pub check-as-spec : {M : Type 1} → statement M
 check-as-spec =
     tie.close
     (tie.spec
     (λ c κs. search needs)
-    disk-rules-requires
-    (λ c. search needs)
-    count-used-requires
-    count-free-requires
+    system-fault-requires
     (λ c. search needs)
     returns
-    returns-2)
+    (λ c. search needs)
+    count-formed-requires
+    (λ c. search needs)
+    check-names-requires
+    (λ c. search needs)
+    (λ c. search needs)
+    returns-3)

@@ -27,6 +27,9 @@ use Rattle.view.specs.declared.Ruled.{Ruled}
 use Rattle.view.specs.declared.Ruled.the-variants.{Pass, Fail}
 use Rattle.view.specs.Disk.{View}
 use Rattle.laws.specs.declared.Refusal.{Refusal}
+use Rattle.laws.specs.declared.Counted.{Counted}
+use Rattle.laws.specs.declared.Counted.the-variants.{Done}
+use Rattle.laws.specs.declared.Counted.the-variants as counted
 use Rattle.laws.specs.Refusals.{refusalAt}
 use Rattle.view.specs.Rules.{rules, badSystem, malformed, repeated}
 use Rattle.rules.specs.declared.Checked.the-variants.{Accepted, Refused}
@@ -35,34 +38,22 @@ use Rattle.rules.specs.declared.Known.the-variants.{Disk, Unknown}
 use Rattle.rules.specs.Check.{orUnknown, densityOf, passedOver, secondKind, hasIdentity, knownKind, knownHead, knownStart, usedCount, checkAs, checkStart}
 use Rattle.rules.specs.Lemmas.Steps.{as-passed, as-failed}
 use Rattle.image.specs.Image.{viewOf}
-use Rattle.chains.specs.Passes.{chainRules}
+use Rattle.slots.specs.Forms.{orUsed}
+use Rattle.chains.specs.Passes.{chainRules, orFree}
 
--- ---- refusals 3 to 5
+-- The chains' answer by that which has the free blocks.
+free-passed : (r : Ruled) {n free : ℕ} → Done free ≡ orFree r n → (r ≡ Pass) × (free ≡ n)
+free-passed Pass e = (refl, cc)
+free-passed (Fail w) e = absurd (let o : _≡_ {A = ℕ} 0 1 = cc in omega arith)
 
-module _ (l : Layout) (v : View) where
-  module _ {system : Lowest} (first : system ≡ lowest (badSystem l v) 0 (l .system)) where
-    pub rules-system : {k : ℕ} → system ≡ At k → Fail (refusalAt 3 k) ≡ rules l v
-    unfolding rules
-    rules-system t = rw (← first, t) refl
+free-failed : (r : Ruled) (n : ℕ) {w : Refusal} → counted.Refused w ≡ orFree r n → r ≡ Fail w
+free-failed Pass n e = absurd (let o : _≡_ {A = ℕ} 0 1 = cc in omega arith)
+free-failed (Fail w) n e = cc
 
-    module _ (right : system ≡ Nowhere) {form : Lowest} (second : form ≡ lowest (malformed l v) 0 (l .slots)) where
-      pub rules-form : {s : ℕ} → form ≡ At s → Fail (refusalAt 4 s) ≡ rules l v
-      unfolding rules
-      rules-form t = rw (← first, right, ← second, t) refl
+-- ---- a layout that the code made
 
-      module _ (formed : form ≡ Nowhere) {name : Lowest} (third : name ≡ lowest (repeated l v) 0 (l .slots)) where
-        pub rules-name : {s : ℕ} → name ≡ At s → Fail (refusalAt 5 s) ≡ rules l v
-        unfolding rules
-        rules-name t = rw (← first, right, ← second, formed, ← third, t) refl
-
-        pub rules-chains : {r : Ruled} → name ≡ Nowhere → r ≡ chainRules l v → r ≡ rules l v
-        unfolding rules chainRules
-        rules-chains t e = rw (← first, right, ← second, formed, ← third, t) e
-
--- ---- the kind and the length
-
--- a layout that the code made: it is right, and its directory and system blocks lie in a head of 17,408 bytes
 module _ (k : Kind) (d : Density) {l : Layout} (made : l ≡ layoutOf k d) where
+  -- it is right, and its directory and system blocks lie in a head of 17,408 bytes
   pub made-right : LayoutRight l
   made-right = rw made (layout-right k d)
 
@@ -73,13 +64,56 @@ module _ (k : Kind) (d : Density) {l : Layout} (made : l ≡ layoutOf k d) where
     pub directory-held : slotOffset l (l .slots) ≤ n
     directory-held = let e = made-right .directory-low in let f = first-held in omega arith
 
-  -- the check's answer by the rules'
-  module _ (b : ℕ → ℕ) {r : Ruled} (ruled : r ≡ rules l (viewOf l b)) where
-    pub as-pass : {files free : ℕ} → r ≡ Pass → files ≡ usedCount l (viewOf l b) → free ≡ freeCount l (mapAt b) → Accepted k d files free ≡ checkAs k d b
-    as-pass t f n = rw (f, n, made) (sym (as-passed b d k (rw made at (sym ruled ∙ t))))
+  -- ---- refusals 3 to 9, each after those before it
 
-    pub as-fail : {w : Refusal} → r ≡ Fail w → Refused w ≡ checkAs k d b
-    as-fail t = sym (as-failed b d k (rw made at (sym ruled ∙ t)))
+  module _ (b : ℕ → ℕ) where
+    abbrev v : View
+    v = viewOf l b
+
+    refused : {w : Refusal} → rules l v ≡ Fail w → Refused w ≡ checkAs k d b
+    refused e = sym (as-failed b d k (rw made at e))
+
+    module _ {system : Lowest} (first : system ≡ lowest (badSystem l v) 0 (l .system)) where
+      pub check-system : {block : ℕ} → system ≡ At block → Refused (refusalAt 3 block) ≡ checkAs k d b
+      unfolding rules
+      check-system t = refused (rw (← first, t) refl)
+
+    module _ (right : lowest (badSystem l v) 0 (l .system) ≡ Nowhere) where
+      form-fault : (x : Lowest) (n : ℕ) {w : Refusal} → x ≡ lowest (malformed l v) 0 (l .slots) → counted.Refused w ≡ orUsed x n → Fail w ≡ rules l v
+      unfolding rules
+      form-fault (At s) n e t = rw (right, ← e) cc
+      form-fault Nowhere n e t = absurd (let o : _≡_ {A = ℕ} 0 1 = cc in omega arith)
+
+      pub check-form : (n : ℕ) {w : Refusal} → counted.Refused w ≡ orUsed (lowest (malformed l v) 0 (l .slots)) n → Refused w ≡ checkAs k d b
+      check-form n t = refused (sym (form-fault (lowest (malformed l v) 0 (l .slots)) n refl t))
+
+      module _ {files : ℕ} (formed : Done files ≡ orUsed (lowest (malformed l v) 0 (l .slots)) (usedCount l v)) {name : Lowest} (third : name ≡ lowest (repeated l v) 0 (l .slots)) where
+        none-malformed : (x : Lowest) {n : ℕ} → Done files ≡ orUsed x n → (x ≡ Nowhere) × (files ≡ n)
+        none-malformed (At s) e = absurd (let o : _≡_ {A = ℕ} 0 1 = cc in omega arith)
+        none-malformed Nowhere e = (refl, cc)
+
+        well : lowest (malformed l v) 0 (l .slots) ≡ Nowhere
+        well = none-malformed (lowest (malformed l v) 0 (l .slots)) formed .0
+
+        pub check-name : {s : ℕ} → name ≡ At s → Refused (refusalAt 5 s) ≡ checkAs k d b
+        unfolding rules
+        check-name t = refused (rw (right, well, ← third, t) refl)
+
+        module _ (single : name ≡ Nowhere) where
+          on-chains : chainRules l v ≡ rules l v
+          unfolding rules chainRules
+          on-chains = rw (right, well, ← third, single) refl
+
+          module _ {r : Counted} (fourth : r ≡ orFree (chainRules l v) (freeCount l (mapAt b))) where
+            pub check-pass : {free : ℕ} → r ≡ Done free → Accepted k d files free ≡ checkAs k d b
+            check-pass t =
+                let p = free-passed (chainRules l v) (sym t ∙ fourth) in
+                rw (none-malformed (lowest (malformed l v) 0 (l .slots)) formed .1, p .1, made) (sym (as-passed b d k (rw made at (sym on-chains ∙ p .0))))
+
+            pub check-chains : {w : Refusal} → r ≡ counted.Refused w → Refused w ≡ checkAs k d b
+            check-chains t = refused (sym on-chains ∙ free-failed (chainRules l v) (freeCount l (mapAt b)) (sym t ∙ fourth))
+
+-- ---- the kind and the length
 
 module _ (d : Density) (b : ℕ → ℕ) {over : Bool} (first : over ≡ passedOver b) where
   pub kinds-over : {x : Known} → over ≡ true → x ≡ orUnknown (secondKind d) 2 (λ k. Disk k d) → x ≡ knownKind d b

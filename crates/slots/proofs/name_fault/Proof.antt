@@ -1,4 +1,4 @@
--- `slots::hash_fault` meets its contract: the lowest slot of those left with a lower slot's name is that of all, and the table has the slots below it.
+-- `slots::name_fault` meets its contract: the lowest slot of those left with a lower slot's name is that of all, and the table has the slots below it.
 -- One search, by its laws; each turn hands the table on. Assumes nothing.
 use Prim.Native.Nat.{ℕ, _-_}
 use native.Mathlib.Omega.{arith}
@@ -11,15 +11,15 @@ use Rattle.view.specs.Rules.{repeated}
 use Rattle.image.specs.Image.{viewOf}
 use Rattle.slots.specs.Hashes.{Tops, Lowers}
 use Rattle.slots.specs.Lemmas.Hashes.{tops-none, lowers-none}
-use Rattle.slots.proofs.hash_fault.Statement.{statement}
-use Rattle.slots.proofs.hash_fault.Tie as tie
+use Rattle.slots.proofs.name_fault.Statement.{statement}
+use Rattle.slots.proofs.name_fault.Tie as tie
 
 abbrev Inv-loop : tie.InvT-loop
-Inv-loop head layout slots tops₀ lowers₀ slot₀ tops lowers slot =
-    Searched (repeated layout (viewOf layout (bytes head))) slots slot × Tops layout (bytes head) tops slot × Lowers layout (bytes head) lowers slot
+Inv-loop head layout end tops₀ lowers₀ slot₀ tops lowers slot =
+    Searched (repeated layout (viewOf layout (bytes head))) end slot × Tops layout (bytes head) tops slot × Lowers layout (bytes head) lowers slot
 
 abbrev μ-loop : tie.MeasureT-loop
-μ-loop head layout slots tops₀ lowers₀ slot₀ tops lowers slot = slots - slot
+μ-loop head layout end tops₀ lowers₀ slot₀ tops lowers slot = end - slot
 
 loop-holds : tie.Need-loop-holds Inv-loop μ-loop
 loop-holds c = (searched-none _ _, tops-none _ _ _ (length-replicate {A = ℕ} 1009 0) (getD-zeros 1009), lowers-none _ _ _ (length-replicate {A = ℕ} 512 0))
@@ -38,8 +38,8 @@ loop-again c =
 returns-2 : tie.Need-returns-2 Inv-loop μ-loop
 returns-2 c = searched-all _ _ _ (c .before .loop .inv .0) (omega arith)
 
-pub hash-fault-spec : {M : Type 1} → statement M
-hash-fault-spec =
+pub name-fault-spec : {M : Type 1} → statement M
+name-fault-spec =
     tie.close
     (tie.spec
     Inv-loop
