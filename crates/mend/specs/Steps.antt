@@ -3,14 +3,15 @@
 use mathlib.Core.Path.{_≡_}
 use mathlib.Core.Bool.{Bool, true, false, not}
 use mathlib.Core.List.{List}
-use Prim.Native.Nat.{ℕ, _<_}
+use Prim.Native.Nat.{ℕ, _≤_, _<_}
 use lib.Dec.{eqb}
 use lib.ListN.{length, take, getD}
 use Rattle.laws.specs.Truth.{pick, both}
 use Rattle.layout.specs.declared.Layout.{Layout}
 use Rattle.map.specs.Map.{chain, walk, isWhole, faultOf, touched, Marks}
-use Rattle.view.specs.Disk.{View, owned}
-use Rattle.view.specs.Rules.{hasNameOf}
+use Rattle.view.specs.Disk.{View, used, owned}
+use Rattle.view.specs.Rules.{hasNameOf, repeated}
+use Rattle.slots.specs.Hashes.{highest}
 use Rattle.salvage.specs.Salvage.{drops, diskAfter, reportOf}
 
 -- The report keeps a slot, and drops one.
@@ -24,6 +25,20 @@ isDropped report s = drops (getD report s 0)
 unfoldable pub keptName : Layout → View → List ℕ → ℕ → ℕ → Bool
 unfolding hasNameOf
 keptName l v report s t = both (isKept report t) (hasNameOf l v s t)
+
+-- What the report notes of a slot before the slots are judged: whether a lower used slot has its name.
+abbrev pub nameNote : Layout → View → ℕ → ℕ
+nameNote l v s = pick (repeated l v s) 1 0
+
+-- How far the used slots below n go: the highest plus 1, or 0.
+abbrev pub usedEnd : View → ℕ → ℕ
+usedEnd v n = highest (λ s. used (v .entry s)) n
+
+-- The first n bytes of a report are these, the others as they were lent.
+pub record Reported (f : ℕ → ℕ) (lent report : List ℕ) (n : ℕ) : Type 0 where
+  pub size : length report ≡ length lent
+  pub said : (t : ℕ) → t < n → getD report t 0 ≡ f t
+  pub kept : (t : ℕ) → n ≤ t → getD report t 0 ≡ getD lent t 0
 
 -- What is said of a chain whose blocks before this one had a marked block or not.
 unfoldable pub chainSaid : Layout → (ℕ → ℕ) → List Bool → Bool → ℕ → ℕ → ℕ

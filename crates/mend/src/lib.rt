@@ -1,5 +1,6 @@
-// The salvage run (document 02, request four) on an image of a known layout: the slots judged in rising order, then the dropped ones erased, the system
-// values restored and the stray blocks freed. Nothing is written before all is judged, so that chains are judged on the map as given.
+// The salvage run (document 02, request four) on an image of a known layout: the names that stand twice are noted, the slots judged in rising order, then
+// the dropped ones erased, the system values restored and the stray blocks freed. Nothing of the image is written before all is judged, so that chains are
+// judged on the map as given.
 ghost use mathlib.Core.Path.{_≡_};
 ghost use mathlib.Core.Bool.{true, false, not};
 ghost use Prim.Native.Nat.{_+_, _-_, _≤_, _<_};
@@ -11,12 +12,12 @@ ghost use Rattle.laws.specs.Reader.{bytes};
 ghost use Rattle.layout.specs.Layouts.{imageLength, slotOffset, mapOffset, blockOffset};
 ghost use Rattle.layout.specs.Right.{LayoutRight};
 ghost use Rattle.map.specs.Map.{mapAt, setMap, setAll, chain, Marks};
-ghost use Rattle.view.specs.Disk.{entryChain, owned};
-ghost use Rattle.view.specs.Rules.{badSystem};
+ghost use Rattle.view.specs.Disk.{used, entryChain, owned};
+ghost use Rattle.view.specs.Rules.{badSystem, repeated};
 ghost use Rattle.image.specs.Image.{viewOf, eraseEntry};
 ghost use Rattle.slots.specs.Keys.{hasKeys};
 ghost use Rattle.salvage.specs.Salvage.{drops, diskAfter, reportOf, survivors, eraseSlots, wrongSystem, salvageImage, mapChanges, reportAfter};
-ghost use Rattle.mend.specs.Steps.{isKept, keptName, chainSaid, Noted, isDropped, isLost, Judging};
+ghost use Rattle.mend.specs.Steps.{isKept, keptName, nameNote, usedEnd, Reported, chainSaid, Noted, isDropped, isLost, Judging};
 
 // Whether a slot is kept and its name's two halves have these keys. Few names are alike, so the keys are asked first.
 fn kept_with(
@@ -52,6 +53,23 @@ fn name_kept(image: &[u8], layout: layout::Layout, report: &[u8], slot: usize) -
         lower += 1;
     }
     false
+}
+
+// Whether a kept slot below has a slot's name. They are gone through only where a used one has it.
+fn name_stands(
+    image: &[u8],
+    layout: layout::Layout,
+    report: &[u8],
+    twice: bool,
+    slot: usize,
+) -> bool
+    requires { ⌜ (slotOffset layout slot + 24 ≤ length (now image)) × (slot ≤ length (now report)) × (used (viewOf layout (bytes (now image)) .entry slot) ≡ true) × (twice ≡ repeated layout (viewOf layout (bytes (now image))) slot) ⌝ }
+    ensures { λ r. ⌜ r ≡ any (keptName layout (viewOf layout (bytes (now (image .entry)))) (now (report .entry)) slot) 0 slot ⌝ }
+{
+    if !twice {
+        return false;
+    }
+    name_kept(image, layout, report, slot)
 }
 
 // Whether one or the other holds.
@@ -117,16 +135,18 @@ fn chain_said(
     }
 }
 
-// What the run says of a slot, by the report and the marks of the slots below it; the blocks of one that is kept are listed.
+// What the run says of a slot, by the report and the marks of the slots below it and by whether its name stands in a used one of them; the blocks of
+// one that is kept are listed.
 fn verdict_of(
     image: &[u8],
     layout: layout::Layout,
     report: &[u8],
     marks: &[bool; 1600],
     list: &mut [u16; 1600],
+    twice: bool,
     slot: usize,
 ) -> u8
-    requires { ⌜ LayoutRight layout × (blockOffset (layout .first) ≤ length (now image)) × (slot < layout .slots) × (layout .slots ≤ length (now report)) × (length (now list) ≡ 1600) × Judging layout (viewOf layout (bytes (now image))) (now report) (now marks) slot ⌝ }
+    requires { ⌜ LayoutRight layout × (blockOffset (layout .first) ≤ length (now image)) × (slot < layout .slots) × (layout .slots ≤ length (now report)) × (length (now list) ≡ 1600) × (twice ≡ repeated layout (viewOf layout (bytes (now image))) slot) × Judging layout (viewOf layout (bytes (now image))) (now report) (now marks) slot ⌝ }
     ensures { λ r. ⌜ r ≡ reportOf layout (viewOf layout (bytes (now (image .entry)))) slot ⌝ }
     ensures { λ r. ⌜ Noted (now (list .exit)) r (entryChain (mapAt (bytes (now (image .entry)))) (viewOf layout (bytes (now (image .entry))) .entry slot)) ⌝ }
 {
@@ -136,7 +156,7 @@ fn verdict_of(
     if slots::is_malformed(image, layout, slot) {
         return 4;
     }
-    if name_kept(image, layout, report, slot) {
+    if name_stands(image, layout, report, twice, slot) {
         return 5;
     }
     let links = chains::links_of(image, layout, slot);
@@ -163,21 +183,68 @@ fn mark_kept(
     map::mark_blocks(marks, list, count);
 }
 
-// Judges the slots: what is said of them to the front of the report, and the marks of the kept chains.
-fn judge(image: &[u8], layout: layout::Layout, report: &mut [u8], marks: &mut [bool; 1600])
+// 1 or 0, as a byte of the report.
+fn note_of(twice: bool) -> u8
+    ensures { λ r. ⌜ r ≡ pick twice 1 0 ⌝ }
+{
+    if twice {
+        return 1;
+    }
+    0
+}
+
+// How far the used slots go, so that the passes end there: slots are filled from the lowest on.
+fn used_end(image: &[u8], layout: layout::Layout) -> usize
+    requires { ⌜ slotOffset layout (layout .slots) ≤ length (now image) ⌝ }
+    ensures { λ r. ⌜ r ≡ usedEnd (viewOf layout (bytes (now (image .entry)))) (layout .slots) ⌝ }
+{
+    let mut end = layout.slots;
+    while end != 0 {
+        if slots::is_used(image, layout, end - 1) {
+            return end;
+        }
+        end -= 1;
+    }
+    0
+}
+
+// Notes in the report which slots' names stand in lower used slots, by the check's table of hashes.
+fn note_names(image: &[u8], layout: layout::Layout, report: &mut [u8], end: usize)
+    requires { ⌜ LayoutRight layout × (blockOffset (layout .first) ≤ length (now image)) × (layout .slots ≤ length (now report)) × (end ≡ usedEnd (viewOf layout (bytes (now image))) (layout .slots)) ⌝ }
+    ensures { λ _. ⌜ Reported (nameNote layout (viewOf layout (bytes (now (image .entry))))) (now (report .entry)) (now (report .exit)) (layout .slots) ⌝ }
+{
+    let rest = layout.slots - end;
+    let mut tops = [0u16; 1009];
+    let mut lowers = [0u16; 512];
+    let mut slot = 0;
+    while slot < end {
+        let twice = slots::repeats(image, layout, &mut tops, &mut lowers, slot);
+        report[slot] = note_of(twice);
+        slot += 1;
+    }
+    blocks::clear(report, end, rest);
+}
+
+// Judges the slots: what is said of them to the front of the report, and the marks of the kept chains. Gives how far the used slots go; those above
+// have their 0 from the notes.
+fn judge(image: &[u8], layout: layout::Layout, report: &mut [u8], marks: &mut [bool; 1600]) -> usize
     requires { ⌜ LayoutRight layout × (blockOffset (layout .first) ≤ length (now image)) × (layout .slots ≤ length (now report)) × (now marks ≡ replicate 1600 false) ⌝ }
     ensures { λ _. ⌜ now (report .exit) ≡ reportAfter layout (now (image .entry)) (now (report .entry)) ⌝ }
     ensures { λ _. ⌜ Marks 1600 (now (marks .exit)) (owned (survivors layout (viewOf layout (bytes (now (image .entry))))) (layout .slots)) ⌝ }
+    ensures { λ r. ⌜ r ≡ usedEnd (viewOf layout (bytes (now (image .entry)))) (layout .slots) ⌝ }
 {
-    let end = layout.slots;
+    let end = used_end(image, layout);
+    note_names(image, layout, report, end);
     let mut list = [0u16; 1600];
     let mut slot = 0;
     while slot < end {
-        let verdict = verdict_of(image, layout, report, marks, &mut list, slot);
+        let twice = report[slot] == 1;
+        let verdict = verdict_of(image, layout, report, marks, &mut list, twice, slot);
         mark_kept(image, layout, marks, &list, slot, verdict);
         report[slot] = verdict;
         slot += 1;
     }
+    end
 }
 
 // Erases a slot that is dropped, as remove does.
@@ -191,12 +258,11 @@ fn erase_if(image: &mut [u8], layout: layout::Layout, slot: usize, verdict: u8)
     blocks::clear(image, layout.directory + 24 * slot, 22);
 }
 
-// Erases the slots that the report drops.
-fn erase_dropped(image: &mut [u8], layout: layout::Layout, report: &[u8])
-    requires { ⌜ (slotOffset layout (layout .slots) ≤ length (now image)) × (layout .slots ≤ length (now report)) ⌝ }
-    ensures { λ _. ⌜ now (image .exit) ≡ eraseSlots layout (now (image .entry)) (those (isDropped (now (report .entry))) 0 (layout .slots)) ⌝ }
+// Erases the slots below the end that the report drops.
+fn erase_dropped(image: &mut [u8], layout: layout::Layout, report: &[u8], end: usize)
+    requires { ⌜ (slotOffset layout end ≤ length (now image)) × (end ≤ length (now report)) ⌝ }
+    ensures { λ _. ⌜ now (image .exit) ≡ eraseSlots layout (now (image .entry)) (those (isDropped (now (report .entry))) 0 end) ⌝ }
 {
-    let end = layout.slots;
     let mut slot = 0;
     while slot < end {
         erase_if(image, layout, slot, report[slot]);
@@ -291,8 +357,8 @@ pub fn salvage(image: &mut [u8], layout: layout::Layout, report: &mut [u8]) -> u
     ensures { λ _. ⌜ now (image .exit) ≡ salvageImage layout (now (image .entry)) ⌝ }
 {
     let mut marks = [false; 1600];
-    judge(image, layout, report, &mut marks);
-    erase_dropped(image, layout, report);
+    let end = judge(image, layout, report, &mut marks);
+    erase_dropped(image, layout, report, end);
     let restored = restore_system(image, layout);
     let freed = free_strays(image, layout, &marks);
     restored + freed

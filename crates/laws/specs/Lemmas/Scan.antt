@@ -250,6 +250,12 @@ unfolding those
 those-none f i zero h = refl
 those-none f i (suc n) h = rw (h i (omega arith) (omega arith)) (those-none f (suc i) n (λ k p q. h k (omega arith) (omega arith)))
 
+-- those of a range that ends in numbers that don't pass
+pub those-short : (f : ℕ → Bool) (i a n : ℕ) → ((k : ℕ) → i + a ≤ k → k < i + (a + n) → f k ≡ false) → those f i (a + n) ≡ those f i a
+unfolding those
+those-short f i zero n h = rw (zero-add n) (those-none f i n (λ k p q. h k (omega arith) (omega arith)))
+those-short f i (suc a) n h = rw (suc-add a n) (ap (λ (bs : List ℕ). pick (f i) (i ∷ bs) bs) (those-short f (suc i) a n (λ k p q. h k (omega arith) (omega arith))))
+
 distinct-pick : (t : Bool) (b : ℕ) (bs : List ℕ) → (In b bs → ⊥) → Distinct bs → Distinct (pick t (b ∷ bs) bs)
 distinct-pick true b bs n d = (n, d)
 distinct-pick false b bs n d = d

@@ -27,7 +27,7 @@ is-used : (c : tie.After-is-malformed) → let a = c .before .before .before .be
 is-used c = sym (c .before .before .is-used .ensures) ∙ not-false _ (c .before .if1 .left)
 
 -- past the second it is well formed
-is-formed : (c : tie.After-name-kept) → let a = c .before .before .before .before .before .before .before .args in
+is-formed : (c : tie.After-name-stands) → let a = c .before .before .before .before .before .before .before .args in
     malformed (a .layout) (viewOf (a .layout) (bytes (now (a .image)))) (a .slot) ≡ false
 is-formed c = sym (c .before .before .is-malformed .ensures) ∙ c .before .if2 .left
 
@@ -37,11 +37,16 @@ returns-2 c = (
   noted-not (c .before .before .before .before .before .before .pre .4) (λ e. omega arith),
 )
 
+name-stands-requires : tie.Need-name-stands-requires
+name-stands-requires c κs =
+    let s = c .before .before .before .before .before .before in
+    (search needs, omega (arith, s .pre .2, s .pre .3), is-used (c .before), s .pre .5)
+
 returns-3 : tie.Need-returns-3
 returns-3 c =
     let n = c .before in
     let p = n .before .before .before .before .before .before .before .pre in (
-      sym (verdict-repeated _ _ _ (is-used (n .before .before)) _ _ (p .5) (is-formed n) (n .name-kept .ensures) (c .if3 .taken)),
+      sym (verdict-repeated _ _ _ (is-used (n .before .before)) _ _ (p .6) (is-formed n) (n .name-stands .ensures) (c .if3 .taken)),
       noted-not (p .4) (λ e. omega arith),
     )
 
@@ -56,7 +61,7 @@ returns-4 c =
     let few = c .before .before .before .links-of .ensures in
     let from = c .before .before .start-of .ensures in (
       c .chain-said .ensures .0
-          ∙ sym (verdict-chain _ _ _ (is-used (n .before .before)) _ _ (s .pre .5) (is-formed n) (s .pre .0) few from (n .name-kept .ensures) (c .before .before .before .before .if3 .left)),
+          ∙ sym (verdict-chain _ _ _ (is-used (n .before .before)) _ _ (s .pre .6) (is-formed n) (s .pre .0) few from (n .name-stands .ensures) (c .before .before .before .before .if3 .left)),
       noted-entry _ (viewOf (s .args .layout) (bytes (now (s .args .image))) .entry (s .args .slot)) few from (c .chain-said .ensures .1),
     )
 
@@ -68,7 +73,7 @@ verdict-of-spec =
     returns
     (λ c κs. search needs)
     returns-2
-    (λ c κs. search needs)
+    name-stands-requires
     returns-3
     (λ c κs. search needs)
     (λ c κs. search needs)

@@ -7,7 +7,7 @@ use Prim.Native.Nat.{ℕ, _+_, _-_, _≤_, _<_}
 use native.Mathlib.Omega.{arith}
 use lib.ListN.{length}
 use Rattle.laws.specs.Scan.{count, those}
-use Rattle.laws.specs.Lemmas.Scan.{count-cong, count-split, in-those, those-cong}
+use Rattle.laws.specs.Lemmas.Scan.{count-cong, count-split, in-those, those-cong, those-short}
 use Rattle.laws.specs.Reader.{bytes}
 use Rattle.laws.specs.Member.{In}
 use Rattle.layout.specs.declared.Layout.{Layout}
@@ -21,7 +21,8 @@ use Rattle.image.specs.Image.{viewOf}
 use Rattle.salvage.specs.Salvage.{drops, reportOf, survivors, eraseSlots, droppedSlots, wrongSystem, strayBlocks, salvageImage, mapChanges, reportAfter}
 use Rattle.salvage.specs.Lemmas.Erased.{erase-map}
 use Rattle.salvage.specs.Theorems.{report-said, salvage-count}
-use Rattle.mend.specs.Steps.{isDropped, isLost}
+use Rattle.mend.specs.Steps.{usedEnd, isDropped, isLost}
+use Rattle.mend.specs.Lemmas.Verdicts.{end-low, above-said}
 
 -- two counts are no more than their ranges have
 pub counts-few : (f g : ℕ → Bool) (i a j n : ℕ) {p q : ℕ} → p ≡ count f i a → q ≡ count g j n → p + q ≤ a + n
@@ -32,14 +33,19 @@ module _ (l : Layout) (right : LayoutRight l) (img lent : List ℕ) (whole : len
   v = viewOf l (bytes img)
 
   module _ {report : List ℕ} {marks : List Bool} (said : report ≡ reportAfter l img lent) (chains : Marks 1600 marks (owned (survivors l v) (l .slots)))
-      {one two three : List ℕ} {restored freed : ℕ} (erased : one ≡ eraseSlots l img (those (isDropped report) 0 (l .slots)))
+      {one two three : List ℕ} {end restored freed : ℕ} (last : end ≡ usedEnd v (l .slots)) (erased : one ≡ eraseSlots l img (those (isDropped report) 0 end))
       (system : two ≡ setAll one (wrongSystem l (viewOf l (bytes one))) (l .reserved)) (others : restored ≡ count (badSystem l (viewOf l (bytes one))) 0 (l .system))
       (lost : three ≡ setAll two (those (isLost (mapAt (bytes two)) marks) (l .first) (l .blocks - l .first)) 0)
       (strays : freed ≡ count (isLost (mapAt (bytes two)) marks) (l .first) (l .blocks - l .first)) where
-    dropped : those (isDropped report) 0 (l .slots) ≡ droppedSlots l v
+    -- no slot past the end is dropped, being empty
+    dropped : those (isDropped report) 0 end ≡ droppedSlots l v
     unfolding droppedSlots
     dropped =
-        those-cong (isDropped report) (λ s. drops (reportOf l v s)) 0 (l .slots) (λ s p q. rw said (ap drops (report-said l img lent s (omega arith))))
+        let low = end-low l v (l .slots) last in
+        let z : end + (l .slots - end) ≡ l .slots = omega arith in
+        those-cong (isDropped report) (λ s. drops (reportOf l v s)) 0 end (λ s p q. rw said (ap drops (report-said l img lent s (omega (arith, low)))))
+        ∙ sym (ap (those (λ s. drops (reportOf l v s)) 0) (sym z)
+        ∙ those-short (λ s. drops (reportOf l v s)) 0 end (l .slots - end) (λ t p q. rw (above-said l v (l .slots) last t (omega arith) (omega (arith, low))) refl))
 
     one-is : one ≡ eraseSlots l img (droppedSlots l v)
     one-is = erased ∙ ap (eraseSlots l img) dropped

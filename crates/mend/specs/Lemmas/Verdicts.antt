@@ -7,16 +7,20 @@ use Prim.Native.Nat.{ℕ, zero, suc, _+_, _-_, _≤_, _<_}
 use native.Mathlib.Decide.{ℕ-discrete, decLt}
 use native.Mathlib.Numerals.{add-one}
 use native.Mathlib.Omega.{arith}
-use lib.ListN.{length, take, drop, getD, set, length-set, length-append, length-drop, List·getD-append}
+use lib.Dec.{eqb}
+use lib.ListN.{length, take, drop, getD, set, replicate, length-replicate, length-set, length-append, length-drop, List·getD-append}
 use lib.Seq.{ext-getD, getD-set-same, getD-set-other, getD-append-add, getD-drop}
 use borrow.Author.Tests.{ne-eqb}
-use Rattle.laws.specs.Truth.{both}
-use Rattle.laws.specs.Lemmas.Truth.{both-false}
+use Rattle.laws.specs.Truth.{pick, both}
+use Rattle.laws.specs.Lemmas.Truth.{both-false, false-both}
 use Rattle.laws.specs.Scan.{any}
-use Rattle.laws.specs.Lemmas.Scan.{any-cong}
+use Rattle.laws.specs.Lemmas.Scan.{any-cong, none→, →none}
 use Rattle.laws.specs.Lists.{meets}
 use Rattle.laws.specs.Member.{In}
 use Rattle.laws.specs.Reader.{tab}
+use Rattle.laws.specs.Splice.{splice}
+use Rattle.laws.specs.Lemmas.Splice.{length-splice, getD-splice-below, getD-splice-past, getD-splice-in}
+use Rattle.laws.specs.Lemmas.Padded.{getD-zeros}
 use Rattle.laws.specs.Lemmas.Reader.{length-tab, getD-tab}
 use Rattle.layout.specs.declared.Layout.{Layout}
 use Rattle.layout.specs.Right.{LayoutRight}
@@ -27,11 +31,19 @@ use Rattle.map.specs.Lemmas.Walks.{walk-chained, whole-is}
 use Rattle.map.specs.Lemmas.Marks.{marks-more, touched-meets}
 use Rattle.view.specs.Disk.{Entry, View, used, entryChain, chainOf, owned}
 use Rattle.view.specs.Rules.{malformed, hasNameOf, repeated, walkOf, broken, sharing}
+use Rattle.slots.specs.Lemmas.Hashes.{highest-low, highest-above}
 use Rattle.salvage.specs.Salvage.{entriesAfter, diskAfter, reportOf}
 use Rattle.salvage.specs.Lemmas.Judged.{verdict-by, entry-ahead, entry-settled, kept-entry, gone-entry, kept-case, same-owned}
-use Rattle.mend.specs.Steps.{keptName, chainSaid, Noted, Judging}
+use Rattle.mend.specs.Steps.{isKept, keptName, nameNote, usedEnd, Reported, chainSaid, Noted, Judging}
 
 -- ---- a slot's verdict
+
+-- A name that no used slot below has stands in no kept one.
+pub kept-none : (l : Layout) (v : View) (report : List ℕ) (s : ℕ) → used (v .entry s) ≡ true → repeated l v s ≡ false → any (keptName l v report s) 0 s ≡ false
+unfolding repeated keptName
+kept-none l v report s u e =
+    let none = both-false (used (v .entry s)) (any (hasNameOf l v s) 0 s) e u in
+    →none (keptName l v report s) 0 s (λ t p q. false-both (isKept report t) (hasNameOf l v s t) (λ k. none→ (hasNameOf l v s) 0 s none t p q))
 
 module _ (l : Layout) (v : View) (s : ℕ) where
   abbrev here : View
@@ -166,6 +178,63 @@ module _ (l : Layout) (v : View) (s : ℕ) where
           rw (e, listed, add-one s, kept-entry l v s (rw kept refl) (suc s) (omega arith), kept-case l v s kept .0, below-same)
           (marks-more 1600 (entryChain (v .map) (v .entry s)) ms (owned (diskAfter l v s) s) in-data m)
 
+-- what is noted of a slot tells whether a lower used slot has its name
+pub noted-twice : (l : Layout) (v : View) (s x : ℕ) → x ≡ nameNote l v s → eqb x 1 ≡ repeated l v s
+noted-twice l v s x e = ap (λ (n : ℕ). eqb n 1) e ∙ go (repeated l v s)
+  where
+    go : (t : Bool) → eqb (pick t 1 0) 1 ≡ t
+    go true = refl
+    go false = refl
+
+-- ---- the slots above the used ones
+
+module _ (l : Layout) (v : View) (n : ℕ) {end : ℕ} (last : end ≡ usedEnd v n) where
+  pub end-low : end ≤ n
+  end-low = omega (arith, last, highest-low (λ s. used (v .entry s)) n)
+
+  -- they are empty
+  above : (t : ℕ) → end ≤ t → t < n → used (v .entry t) ≡ false
+  above t h k = highest-above (λ s. used (v .entry s)) n t (omega (arith, last)) k
+
+  -- said and noted to be so
+  pub above-said : (t : ℕ) → end ≤ t → t < n → reportOf l v t ≡ 0
+  above-said t h k = verdict-empty l v t (above t h k)
+
+  pub above-noted : (t : ℕ) → end ≤ t → t < n → nameNote l v t ≡ reportOf l v t
+  unfolding repeated
+  above-noted t h k = rw (above t h k, above-said t h k) refl
+
+  -- and without chains
+  pub above-marks : (ms : List Bool) (k : ℕ) → end + k ≤ n → Marks 1600 ms (owned (diskAfter l v end) end) → Marks 1600 ms (owned (diskAfter l v (end + k)) (end + k))
+  above-marks ms zero h m = let z : end + 0 ≡ end = omega arith in rw z m
+  above-marks ms (suc k) h m =
+      let z : end + suc k ≡ end + k + 1 = omega arith in
+      rw z (gone-marks l v (end + k) (λ e. omega (arith, above-said (end + k) (omega arith) (omega arith), e)) ms (above-marks ms k (omega arith) m))
+
+-- zeros are their notes
+pub noted-above : (l : Layout) (v : View) (lent report : List ℕ) {end rest : ℕ} → end ≡ usedEnd v (l .slots) → rest ≡ l .slots - end → l .slots ≤ length lent
+    → Reported (nameNote l v) lent report end → Reported (nameNote l v) lent (splice report end (replicate rest 0)) (l .slots)
+noted-above l v lent report {end} {rest} last left enough r = record {
+  size = length-splice report end (replicate rest 0) ∙ r .size;
+  said = λ t h. go t h (decLt t end);
+  kept = λ t h. getD-splice-past report end (replicate rest 0) t (omega (arith, low, zeros, left)) ∙ r .kept t (omega (arith, low));
+}
+  where
+    low : end ≤ l .slots
+    low = end-low l v (l .slots) last
+
+    zeros : length {A = ℕ} (replicate rest 0) ≡ rest
+    zeros = length-replicate {A = ℕ} rest 0
+
+    go : (t : ℕ) → t < l .slots → Dec (t < end) → getD (splice report end (replicate rest 0)) t 0 ≡ nameNote l v t
+    go t h (yes k) = getD-splice-below report end (replicate rest 0) t k ∙ r .said t k
+    go t h (no k) =
+        let z : end + (t - end) ≡ t = omega arith in
+        ap (λ (x : ℕ). getD (splice report end (replicate rest 0)) x 0) (sym z)
+        ∙ getD-splice-in report end (replicate rest 0) (t - end) (omega (arith, zeros, left, low, enough, r .size)) (omega (arith, zeros, left))
+        ∙ getD-zeros rest (t - end)
+        ∙ sym (above-noted l v (l .slots) last t (omega arith) h ∙ above-said l v (l .slots) last t (omega arith) h)
+
 -- what a walk of the slot's chain noted
 pub noted-entry : (m : ℕ → ℕ) (e : Entry) {links start verdict : ℕ} {list : List ℕ} → links ≡ linksFor (e .size) → start ≡ e .start → Noted list verdict (chain m links start)
     → Noted list verdict (entryChain m e)
@@ -173,12 +242,6 @@ unfolding entryChain
 noted-entry m e few from n = rw (← few, ← from) n
 
 -- ---- the report
-
--- Its first n bytes are the verdicts, the others as they were lent.
-pub record Reported (f : ℕ → ℕ) (lent report : List ℕ) (n : ℕ) : Type 0 where
-  pub size : length report ≡ length lent
-  pub said : (t : ℕ) → t < n → getD report t 0 ≡ f t
-  pub kept : (t : ℕ) → n ≤ t → getD report t 0 ≡ getD lent t 0
 
 module _ (f : ℕ → ℕ) (lent : List ℕ) where
   pub reported-none : Reported f lent lent 0
@@ -194,6 +257,18 @@ module _ (f : ℕ → ℕ) (lent : List ℕ) where
       go : (t : ℕ) → t < n + 1 → Dec (t ≡ n) → getD (set report n value) t 0 ≡ f t
       go t k (yes z) = rw z (getD-set-same report n value 0 (omega (arith, r .size)) ∙ e)
       go t k (no z) = getD-set-other report n t value 0 z ∙ r .said t (omega arith)
+
+  -- as far as what was lent is right already
+  pub reported-on : (report : List ℕ) (n m : ℕ) → n ≤ m → ((t : ℕ) → n ≤ t → t < m → getD lent t 0 ≡ f t) → Reported f lent report n → Reported f lent report m
+  reported-on report n m h right r = record { size = r .size; said = λ t k. go t k (decLt t n); kept = λ t k. r .kept t (omega arith) }
+    where
+      go : (t : ℕ) → t < m → Dec (t < n) → getD report t 0 ≡ f t
+      go t k (yes z) = r .said t z
+      go t k (no z) = r .kept t (omega arith) ∙ right t (omega arith) k
+
+  -- over other bytes in as many places
+  pub reported-over : (g : ℕ → ℕ) (mid report : List ℕ) (n : ℕ) → Reported g lent mid n → Reported f mid report n → Reported f lent report n
+  reported-over g mid report n q r = record { size = r .size ∙ q .size; said = r .said; kept = λ t k. r .kept t k ∙ q .kept t k }
 
   pub reported-all : (report : List ℕ) (n : ℕ) → n ≤ length lent → Reported f lent report n → report ≡ tab f 0 n ++ drop n lent
   reported-all report n h r =
