@@ -108,6 +108,8 @@ static fault pair_fault(const uint8_t *image, const layout *disk) {
     return (fault){0, 0};
 }
 
+enum { CELLS = 1024 };
+
 /* The top ten bits of products, which all bytes of a name take part in. */
 static size_t hash(const uint8_t *name) {
     uint64_t half[2];
@@ -117,7 +119,6 @@ static size_t hash(const uint8_t *name) {
 
 /* By a table of hashes with a cell for each slot at least twice over: where a cell is taken, the next one is asked. */
 static fault hash_fault(const uint8_t *image, const layout *disk) {
-    enum { CELLS = 1024 };
     uint16_t table[CELLS] = {0}; /* a slot plus 1, or 0 */
     for (size_t slot = 0; slot < disk->slots; slot++) {
         const uint8_t *entry = image + slot_at(disk, slot);
@@ -345,6 +346,7 @@ sj_done peer_remove(uint8_t *image, size_t image_len, const uint8_t *name, size_
 typedef struct {
     size_t files;
     uint64_t names[MOST_SLOTS][2]; /* a name area's 16 bytes */
+    uint16_t cells[CELLS];         /* a file plus 1, or 0: used where a disk has many slots */
     uint16_t keep[MOST_BLOCKS];    /* all ones where a block is on a chain of theirs, else 0 */
 } kept;
 
@@ -374,21 +376,37 @@ static uint32_t take_chain(const uint8_t *image, const layout *disk, const uint8
     return 0;
 }
 
+/* Whether a kept file has a name; gives the name's cell if the disk has many slots. */
+static bool is_kept(const kept *so_far, const layout *disk, const uint64_t *name, size_t *cell) {
+    if (disk->slots <= FEW_SLOTS) {
+        for (size_t file = 0; file < so_far->files; file++)
+            if (so_far->names[file][0] == name[0] && so_far->names[file][1] == name[1])
+                return true;
+        return false;
+    }
+    for (*cell = hash((const uint8_t *)name); so_far->cells[*cell] != 0; *cell = (*cell + 1) % CELLS)
+        if (memcmp(so_far->names[so_far->cells[*cell] - 1], name, 16) == 0)
+            return true;
+    return false;
+}
+
 /* What a salvage reports of a slot. */
 static uint8_t judge(const uint8_t *image, const layout *disk, const uint8_t *entry, kept *so_far) {
     uint64_t *name = so_far->names[so_far->files];
+    size_t cell = 0;
     if (!is_used(entry))
         return 0;
     if (!is_well_formed(entry, disk))
         return 4;
     memcpy(name, entry, 16);
-    for (size_t file = 0; file < so_far->files; file++)
-        if (so_far->names[file][0] == name[0] && so_far->names[file][1] == name[1])
-            return 5;
+    if (is_kept(so_far, disk, name, &cell))
+        return 5;
     uint32_t number = take_chain(image, disk, entry, so_far->keep);
     if (number != 0)
         return (uint8_t)number;
     so_far->files++;
+    if (disk->slots > FEW_SLOTS)
+        so_far->cells[cell] = (uint16_t)so_far->files;
     return 1;
 }
 
@@ -420,6 +438,8 @@ sj_counted peer_salvage(uint8_t *image, size_t image_len, uint8_t *report, size_
         return (sj_counted){21, 0, 0};
     so_far.files = 0;
     memset(so_far.keep, 0, sizeof so_far.keep);
+    if (disk.slots > FEW_SLOTS)
+        memset(so_far.cells, 0, sizeof so_far.cells);
     for (size_t slot = 0; slot < disk.slots; slot++) {
         report[slot] = judge(image, &disk, image + slot_at(&disk, slot), &so_far);
         if (report[slot] > 1)

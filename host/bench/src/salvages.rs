@@ -50,8 +50,7 @@ fn against(table: &mut Table, what: &str, image: Vec<u8>, slots: usize) {
     let taken = race(&mut runners);
     drop(runners);
     assert!(ours == theirs, "images part");
-    // 512 names are compared in pairs by both: no more is asked than to see what that takes.
-    table.ratio(what, &taken[0], "C", &taken[1], (slots == SLOTS).then_some(1.3));
+    table.ratio(what, &taken[0], "C", &taken[1], Some(1.3));
 }
 
 /// Salvages the same image again and again: directory and map are put back before each call, which isn't counted.
