@@ -15,7 +15,7 @@ ghost use Rattle.slots.specs.Forms.{orUsed};
 ghost use Rattle.rules.specs.declared.Known.the-variants.{Disk, Unknown};
 ghost use Rattle.rules.specs.Check.{orUnknown, secondKind, knownKind, knownStart, usedCount, checkAs, checkOf, checkStart};
 
-// Refusals 5 to 9 of an image that 3 and 4 don't refuse, else what is found: its used slots were counted.
+// Refusals 5 to 9 of an image that 3 and 4 don't refuse and whose used slots are counted, else what the check tells of it.
 fn check_names(
     head: &[u8],
     layout: layout::Layout,
