@@ -80,8 +80,8 @@ unlistedBy r = record { entry = entries.Refused r; name = replicate 12 0 }
 abbrev pub listCall : ℕ → Call
 listCall slot = list slot
 
-abbrev pub findCall : List ℕ → Call
-findCall name = find name
+abbrev pub findCall : List ℕ → ℕ → Call
+findCall name type = find name type
 
 abbrev pub pageCall : ℕ → ℕ → List ℕ → Call
 pageCall slot offset out = page slot offset out
@@ -89,8 +89,8 @@ pageCall slot offset out = page slot offset out
 abbrev pub putCall : List ℕ → ℕ → List ℕ → Call
 putCall name type content = put name type content
 
-abbrev pub removeCall : List ℕ → Call
-removeCall name = remove name
+abbrev pub removeCall : List ℕ → ℕ → Call
+removeCall name type = remove name type
 
 abbrev pub salvageCall : List ℕ → Call
 salvageCall report = salvage report

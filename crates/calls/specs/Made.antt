@@ -17,8 +17,8 @@ use Rattle.calls.specs.declared.Removed.{Removed}
 use Rattle.calls.specs.Answers.{foundOf, pagedOf, listedOf, removedOf, countedOf, Lists}
 use Rattle.calls.specs.Lemmas.Answers.{call-refused, call-accepted}
 
-abbrev pub FindMade : List ℕ → List ℕ → Found → Type 0
-FindMade img name r = Made img (find name) (foundOf r) [] img
+abbrev pub FindMade : List ℕ → List ℕ → ℕ → Found → Type 0
+FindMade img name letter r = Made img (find name letter) (foundOf r) [] img
 
 abbrev pub PageMade : List ℕ → ℕ → ℕ → List ℕ → Paged → List ℕ → Type 0
 PageMade img slot offset out r after = Made img (page slot offset out) (pagedOf r) after img
@@ -26,8 +26,8 @@ PageMade img slot offset out r after = Made img (page slot offset out) (pagedOf 
 abbrev pub PutMade : List ℕ → List ℕ → ℕ → List ℕ → Found → List ℕ → Type 0
 PutMade img name letter content r after = Made img (put name letter content) (foundOf r) [] after
 
-abbrev pub RemoveMade : List ℕ → List ℕ → Removed → List ℕ → Type 0
-RemoveMade img name r after = Made img (remove name) (removedOf r) [] after
+abbrev pub RemoveMade : List ℕ → List ℕ → ℕ → Removed → List ℕ → Type 0
+RemoveMade img name letter r after = Made img (remove name letter) (removedOf r) [] after
 
 abbrev pub SalvageMade : List ℕ → List ℕ → Counted → List ℕ → List ℕ → Type 0
 SalvageMade img report r said after = Made img (salvage report) (countedOf r) said after

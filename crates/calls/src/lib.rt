@@ -9,8 +9,7 @@ ghost use Rattle.record.specs.Order.{roomFor};
 ghost use Rattle.layout.specs.Layouts.{imageLength};
 ghost use Rattle.layout.specs.Right.{LayoutRight};
 ghost use Rattle.image.specs.Image.{filesIn, DiskRules};
-ghost use Rattle.record.specs.Record.{slotOf, fileAt, judgeName, judgePut, listing, paging};
-ghost use Rattle.names.specs.Names.{legalName};
+ghost use Rattle.record.specs.Record.{isLegal, slotOf, fileAt, judgeName, judgePut, listing, paging};
 ghost use Rattle.laws.specs.Refusals.{refusalAt};
 ghost use mathlib.Core.Bool.{true};
 ghost use Rattle.rules.specs.Check.{came, salvageAs, callOf};
@@ -105,29 +104,39 @@ fn list_slot(image: &[u8], layout: layout::Layout, slot: usize) -> Listed
     }
 }
 
-// The slot of a file of an accepted image by its legal name.
-fn slot_named(image: &[u8], layout: layout::Layout, name: &[u8]) -> laws::Lowest
-    requires { ⌜ LayoutRight layout × DiskRules layout (now image) × (legalName layout (now name) ≡ true) ⌝ }
-    ensures { λ r. ⌜ r ≡ slotOf layout (filesIn layout (now (image .entry))) (now (name .entry)) ⌝ }
+// Whether a file may have the name and the type (refusal 11).
+fn is_legal(layout: layout::Layout, name: &[u8], letter: u8) -> bool
+    ensures { λ r. ⌜ r ≡ isLegal layout (now (name .entry)) letter ⌝ }
+{
+    if !names::is_name(layout, name) {
+        return false;
+    }
+    names::is_type(layout, letter)
+}
+
+// The slot of a file of an accepted image by its legal name and type.
+fn slot_named(image: &[u8], layout: layout::Layout, name: &[u8], letter: u8) -> laws::Lowest
+    requires { ⌜ LayoutRight layout × DiskRules layout (now image) × (isLegal layout (now name) letter ≡ true) ⌝ }
+    ensures { λ r. ⌜ r ≡ slotOf layout (filesIn layout (now (image .entry))) (now (name .entry)) letter ⌝ }
 {
     let area = names::area_of(layout, name);
     let low = slots::key(&area, 0);
     let high = slots::key(&area, 8);
-    slots::find_keys(image, layout, low, high)
+    slots::find_keys(image, layout, low, high, letter)
 }
 
 // How find and remove are judged on an accepted image: 11, 10.
-fn judge_name(image: &[u8], layout: layout::Layout, name: &[u8]) -> record::Judged
+fn judge_name(image: &[u8], layout: layout::Layout, name: &[u8], letter: u8) -> record::Judged
     requires { ⌜ LayoutRight layout × DiskRules layout (now image) ⌝ }
-    ensures { λ r. ⌜ r ≡ judgeName layout (filesIn layout (now (image .entry))) (now (name .entry)) ⌝ }
+    ensures { λ r. ⌜ r ≡ judgeName layout (filesIn layout (now (image .entry))) (now (name .entry)) letter ⌝ }
 {
-    if !names::is_name(layout, name) {
+    if !is_legal(layout, name, letter) {
         return record::Judged::Refuse(laws::Refusal {
             number: 11,
             place: 0,
         });
     }
-    let found = slot_named(image, layout, name);
+    let found = slot_named(image, layout, name, letter);
     match found {
         laws::Lowest::At(slot) => record::Judged::Grant(slot),
         laws::Lowest::Nowhere => record::Judged::Refuse(laws::Refusal {
@@ -180,13 +189,7 @@ fn judge_put(
     requires { ⌜ LayoutRight layout × DiskRules layout (now image) × (free ≡ freeCount layout (mapAt (bytes (now image)))) ⌝ }
     ensures { λ r. ⌜ ((content : List ℕ) → length content ≡ size → r ≡ judgePut layout (filesIn layout (now (image .entry))) (now (name .entry)) letter content) ⌝ }
 {
-    if !names::is_name(layout, name) {
-        return record::Judged::Refuse(laws::Refusal {
-            number: 11,
-            place: 0,
-        });
-    }
-    if !names::is_type(layout, letter) {
+    if !is_legal(layout, name, letter) {
         return record::Judged::Refuse(laws::Refusal {
             number: 11,
             place: 0,
@@ -198,7 +201,7 @@ fn judge_put(
             place: 0,
         });
     }
-    let taken = slot_named(image, layout, name);
+    let taken = slot_named(image, layout, name, letter);
     if let laws::Lowest::At(slot) = taken {
         return record::Judged::Refuse(laws::Refusal {
             number: 12,
@@ -284,9 +287,9 @@ pub fn list(image: &[u8], slot: usize) -> Listed
     list_slot(image, layout, slot)
 }
 
-// The slot of the file with a name.
-pub fn find(image: &[u8], name: &[u8]) -> Found
-    ensures { λ r. ⌜ came (foundOf r) [] (now (image .entry)) ≡ callOf (now (image .entry)) (findCall (now (name .entry))) ⌝ }
+// The slot of the file with a name and a type.
+pub fn find(image: &[u8], name: &[u8], letter: u8) -> Found
+    ensures { λ r. ⌜ came (foundOf r) [] (now (image .entry)) ≡ callOf (now (image .entry)) (findCall (now (name .entry)) letter) ⌝ }
 {
     let checked = disk::check(image);
     let rules::Checked::Accepted {
@@ -299,7 +302,7 @@ pub fn find(image: &[u8], name: &[u8]) -> Found
         return Found::Refused(rules::refusal_of(checked));
     };
     let layout = layout::layout_of(kind, density);
-    found_by(judge_name(image, layout, name))
+    found_by(judge_name(image, layout, name, letter))
 }
 
 // Bytes of a slot's file from an offset on, to the front of the output.
@@ -364,9 +367,9 @@ pub fn put(image: &mut [u8], name: &[u8], letter: u8, content: &[u8]) -> Found
     Found::At(slot)
 }
 
-// Removes the file with a name.
-pub fn remove(image: &mut [u8], name: &[u8]) -> Removed
-    ensures { λ r. ⌜ came (removedOf r) [] (now (image .exit)) ≡ callOf (now (image .entry)) (removeCall (now (name .entry))) ⌝ }
+// Removes the file with a name and a type.
+pub fn remove(image: &mut [u8], name: &[u8], letter: u8) -> Removed
+    ensures { λ r. ⌜ came (removedOf r) [] (now (image .exit)) ≡ callOf (now (image .entry)) (removeCall (now (name .entry)) letter) ⌝ }
 {
     let checked = disk::check(image);
     let rules::Checked::Accepted {
@@ -379,7 +382,7 @@ pub fn remove(image: &mut [u8], name: &[u8]) -> Removed
         return Removed::Refused(rules::refusal_of(checked));
     };
     let layout = layout::layout_of(kind, density);
-    let judged = judge_name(image, layout, name);
+    let judged = judge_name(image, layout, name, letter);
     match judged {
         record::Judged::Refuse(refusal) => Removed::Refused(refusal),
         record::Judged::Grant(slot) => {

@@ -27,12 +27,12 @@ fn print_found(found: calls::Found) {
     }
 }
 
-// Finds the name between the brackets at `at` and at the text's end, and prints the answer.
+// Finds the file of the type at `at`, its name between the brackets two bytes on and at the text's end, and prints the answer.
 pub(crate) fn find(image: &[u8], text: &[u8], at: usize) {
     let end = text.len();
     if at < end {
-        if end - at >= 2 {
-            print_found(calls::find(image, &text[at + 1..end - 1]));
+        if end - at >= 4 {
+            print_found(calls::find(image, &text[at + 3..end - 1], text[at]));
         }
     }
 }

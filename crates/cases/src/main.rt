@@ -12,7 +12,7 @@
 //   other SLOT TYPE LENGTH START NAME    stores a slot of the second directory as the S3000 does: AKAII, then 0,0,0,2; a
 //                                        capital TYPE letter plus 128; and identity 0,12
 //   data BLOCK COUNT FIRST               stores FIRST, FIRST + 1, .. from a block on, modulo 251
-//   check, list SLOT, find [NAME]        print the answer
+//   check, list SLOT, find TYPE [NAME]   print the answer; TYPE is the type byte itself
 //   page SLOT OFFSET SIZE                prints it, the output's first four bytes and a sum over all of its SIZE bytes,
 //                                        which held 238 before: those past the count are seen to be kept,
 //                                        and all of them on a refusal

@@ -9,7 +9,9 @@
 --   akaiiOf, asciiOf and capital (names/specs/Akaii), capitals (names/specs/Names), keptFile (record/specs/Record), inCapitals (record/specs/Spelling): request two;
 --   costOf, blocksHolding and holds (pages/specs/Cost), costIn (calls/specs/Metered): request three;
 --   verdict to salvageImage and mapChanges (salvage/specs/Salvage), Said (salvage/specs/Said), knownOf and salvageOf (rules/specs/Check): request four;
---   PassedOver, InUse and OfKind (image/specs/Image), SameButFirst and Unseen (rules/specs/Unread), letterOf (listing/specs/Listing): request five.
+--   PassedOver, InUse and OfKind (image/specs/Image), SameButFirst and Unseen (rules/specs/Unread), letterOf (listing/specs/Listing): request five;
+--   Namesakes (view/specs/Disk), isLegal, isNamed and Removes (record/specs/Record), Holds and Apart (record/specs/Types), FoundApart (rules/specs/Types),
+--   KeptBelow (salvage/specs/Said): request six.
 -- That the code does so is what each function's contract says, and those are proved with it. Assumes nothing.
 use mathlib.Core.Path.{_≡_, refl}
 use mathlib.Core.Bool.{true, false}
@@ -54,17 +56,19 @@ use Rattle.map.specs.Values.{Other, Reaches}
 use Rattle.view.specs.Disk.{View, Entry, File, used, formed, owned, contentOf, takes, Owns}
 use Rattle.view.specs.Rules.{badSystem, stray}
 use Rattle.view.specs.Broken.{Breaks, legal, owner}
-use Rattle.image.specs.Image.{viewOf, filesIn, PassedOver, InUse, OfKind, DiskRules, erased, removeImage, newEntry}
+use Rattle.image.specs.Image.{viewOf, filesIn, InUse, OfKind, DiskRules, erased, removeImage, newEntry}
 use Rattle.image.specs.Outside.{Within, InEntry, InMap}
 use Rattle.salvage.specs.Salvage.{drops, diskAfter, reportOf, survivors, salvageImage, mapChanges, reportAfter}
 use Rattle.salvage.specs.Said as said
-use Rattle.salvage.specs.Said.{Said}
+use Rattle.salvage.specs.Said.{Said, KeptBelow}
 use Rattle.salvage.specs.Theorems as salvages
 use Rattle.salvage.specs.Theorems.{SalvageTouches}
-use Rattle.record.specs.Record.{Shape, Files, Call, check, list, find, page, put, remove, salvage, refused, refusedBy, valued, paged, done, Turn, keptFile, fileCount, slotOf, emptySlot, free, fileAt, refuse, judgeName, judgePut, keptReport, salvaging, stepFiles}
+use Rattle.record.specs.Record.{Shape, Files, Call, check, list, find, page, put, remove, salvage, refused, refusedBy, valued, paged, done, Turn, keptFile, fileCount, slotOf, emptySlot, free, fileAt, refuse, isLegal, judgeName, judgePut, keptReport, salvaging, stepFiles}
 use Rattle.record.specs.Order.{roomFor}
 use Rattle.record.specs.Order as order
 use Rattle.record.specs.Spelling.{inCapitals}
+use Rattle.record.specs.Types.{Holds, Apart}
+use Rattle.record.specs.Types as known
 use Rattle.rules.specs.declared.Checked.the-variants.{Accepted, Refused}
 use Rattle.rules.specs.declared.Known.the-variants.{Disk, Unknown}
 use Rattle.rules.specs.Check.{knownOf, checkOf, lent, came, salvageOf, callOf, Made}
@@ -87,6 +91,8 @@ use Rattle.rules.specs.Mark as mark
 use Rattle.rules.specs.Mark.{lastBlock}
 use Rattle.rules.specs.Spelling as spelling
 use Rattle.rules.specs.Second as second
+use Rattle.rules.specs.Types as types
+use Rattle.rules.specs.Types.{FoundApart}
 use Rattle.rules.specs.Unread as unread
 use Rattle.rules.specs.Unread.{SameButFirst, Unseen}
 use Rattle.pages.specs.Cost as cost
@@ -128,10 +134,11 @@ pub counting-unchanged : (c : Counting) (r : Refusal) → countingOf c .answer �
 counting-unchanged = counting.counting-kept
 
 -- The order in which a call's refusals are asked for, judged on the record. Find and remove: 11, 10.
-pub find-illegal : (k : Kind) (d : Density) (files : Files) (name : List ℕ) → legalName (layoutOf k d) name ≡ false → judgeName (layoutOf k d) files name ≡ refuse 11 0
+pub find-illegal : (k : Kind) (d : Density) (files : Files) (name : List ℕ) (type : ℕ) → isLegal (layoutOf k d) name type ≡ false → judgeName (layoutOf k d) files name type ≡ refuse 11 0
 find-illegal k d = order.order-illegal (layoutOf k d)
 
-pub find-missing : (k : Kind) (d : Density) (files : Files) (name : List ℕ) → legalName (layoutOf k d) name ≡ true → slotOf (layoutOf k d) files name ≡ Nowhere → judgeName (layoutOf k d) files name ≡ refuse 10 0
+pub find-missing : (k : Kind) (d : Density) (files : Files) (name : List ℕ) (type : ℕ) → isLegal (layoutOf k d) name type ≡ true → slotOf (layoutOf k d) files name type ≡ Nowhere
+    → judgeName (layoutOf k d) files name type ≡ refuse 10 0
 find-missing k d = order.order-missing (layoutOf k d)
 
 -- List: 10. Page: 10, 17.
@@ -145,29 +152,25 @@ pub page-above : (shape : Shape) (files : Files) (slot offset : ℕ) (out : List
     → stepFiles shape files (page slot offset out) .answer ≡ refused 17 0
 page-above = order.order-above
 
--- Put: 11, 13, 12 at the slot that has the name, 14, then 15 and 16.
-pub put-illegal : (k : Kind) (d : Density) (files : Files) (name : List ℕ) (type : ℕ) (content : List ℕ) → legalName (layoutOf k d) name ≡ false
+-- Put: 11, 13, 12 at the slot that has name and type, 14, then 15 and 16.
+pub put-illegal : (k : Kind) (d : Density) (files : Files) (name : List ℕ) (type : ℕ) (content : List ℕ) → isLegal (layoutOf k d) name type ≡ false
     → judgePut (layoutOf k d) files name type content ≡ refuse 11 0
-put-illegal k d = order.order-name (layoutOf k d)
+put-illegal k d = order.order-unfit (layoutOf k d)
 
-pub put-type : (k : Kind) (d : Density) (files : Files) (name : List ℕ) (type : ℕ) (content : List ℕ) → legalName (layoutOf k d) name ≡ true → legalType (layoutOf k d) type ≡ false
-    → judgePut (layoutOf k d) files name type content ≡ refuse 11 0
-put-type k d = order.order-type (layoutOf k d)
-
-pub put-empty : (k : Kind) (d : Density) (files : Files) (name : List ℕ) (type : ℕ) (content : List ℕ) → legalName (layoutOf k d) name ≡ true → legalType (layoutOf k d) type ≡ true
+pub put-empty : (k : Kind) (d : Density) (files : Files) (name : List ℕ) (type : ℕ) (content : List ℕ) → isLegal (layoutOf k d) name type ≡ true
     → length content ≡ 0 → judgePut (layoutOf k d) files name type content ≡ refuse 13 0
 put-empty k d = order.order-empty (layoutOf k d)
 
-pub put-taken : (k : Kind) (d : Density) (files : Files) (name : List ℕ) (type : ℕ) (content : List ℕ) → legalName (layoutOf k d) name ≡ true → legalType (layoutOf k d) type ≡ true
-    → (length content ≡ 0 → ⊥) → {s : ℕ} → slotOf (layoutOf k d) files name ≡ At s → judgePut (layoutOf k d) files name type content ≡ refuse 12 s
+pub put-taken : (k : Kind) (d : Density) (files : Files) (name : List ℕ) (type : ℕ) (content : List ℕ) → isLegal (layoutOf k d) name type ≡ true
+    → (length content ≡ 0 → ⊥) → {s : ℕ} → slotOf (layoutOf k d) files name type ≡ At s → judgePut (layoutOf k d) files name type content ≡ refuse 12 s
 put-taken k d = order.order-taken (layoutOf k d)
 
-pub put-full : (k : Kind) (d : Density) (files : Files) (name : List ℕ) (type : ℕ) (content : List ℕ) → legalName (layoutOf k d) name ≡ true → legalType (layoutOf k d) type ≡ true
-    → (length content ≡ 0 → ⊥) → slotOf (layoutOf k d) files name ≡ Nowhere → emptySlot (layoutOf k d) files ≡ Nowhere → judgePut (layoutOf k d) files name type content ≡ refuse 14 0
+pub put-full : (k : Kind) (d : Density) (files : Files) (name : List ℕ) (type : ℕ) (content : List ℕ) → isLegal (layoutOf k d) name type ≡ true
+    → (length content ≡ 0 → ⊥) → slotOf (layoutOf k d) files name type ≡ Nowhere → emptySlot (layoutOf k d) files ≡ Nowhere → judgePut (layoutOf k d) files name type content ≡ refuse 14 0
 put-full k d = order.order-full (layoutOf k d)
 
-pub put-room : (k : Kind) (d : Density) (files : Files) (name : List ℕ) (type : ℕ) (content : List ℕ) → legalName (layoutOf k d) name ≡ true → legalType (layoutOf k d) type ≡ true
-    → (length content ≡ 0 → ⊥) → {s : ℕ} → slotOf (layoutOf k d) files name ≡ Nowhere → emptySlot (layoutOf k d) files ≡ At s
+pub put-room : (k : Kind) (d : Density) (files : Files) (name : List ℕ) (type : ℕ) (content : List ℕ) → isLegal (layoutOf k d) name type ≡ true
+    → (length content ≡ 0 → ⊥) → {s : ℕ} → slotOf (layoutOf k d) files name type ≡ Nowhere → emptySlot (layoutOf k d) files ≡ At s
     → judgePut (layoutOf k d) files name type content ≡ roomFor (free (layoutOf k d) files) (length content) s
 put-room k d = order.order-room (layoutOf k d)
 
@@ -359,18 +362,18 @@ pub names-in-capitals : (k : Kind) (d : Density) (f n : ℕ) (img : List ℕ) �
     → capitals (layoutOf k d) (file .name) ≡ file .name
 names-in-capitals = spelling.kept-name
 
--- Find, put and remove follow: every spelling of a file's name finds it, is taken, and removes it.
+-- Find, put and remove follow: every spelling of a file's name, with its type, finds it, is taken, and removes it.
 pub spelling-found : (k : Kind) (d : Density) (f n : ℕ) (img : List ℕ) → checkOf img ≡ Accepted k d f n → (slot : ℕ) (file : File) → filesIn (layoutOf k d) img slot ≡ some file
-    → (name : List ℕ) → capitals (layoutOf k d) name ≡ file .name → callOf img (find name) ≡ came (valued slot) [] img
+    → (name : List ℕ) → capitals (layoutOf k d) name ≡ file .name → callOf img (find name (file .type)) ≡ came (valued slot) [] img
 spelling-found = spelling.found
 
 pub spelling-taken : (k : Kind) (d : Density) (f n : ℕ) (img : List ℕ) → checkOf img ≡ Accepted k d f n → (slot : ℕ) (file : File) → filesIn (layoutOf k d) img slot ≡ some file
-    → (name : List ℕ) → capitals (layoutOf k d) name ≡ file .name → (type : ℕ) (content : List ℕ) → legalType (layoutOf k d) type ≡ true → (length content ≡ 0 → ⊥)
-    → callOf img (put name type content) ≡ came (refused 12 slot) [] img
+    → (name : List ℕ) → capitals (layoutOf k d) name ≡ file .name → (content : List ℕ) → (length content ≡ 0 → ⊥)
+    → callOf img (put name (file .type) content) ≡ came (refused 12 slot) [] img
 spelling-taken = spelling.taken
 
 pub spelling-removed : (k : Kind) (d : Density) (f n : ℕ) (img : List ℕ) → checkOf img ≡ Accepted k d f n → (slot : ℕ) (file : File) → filesIn (layoutOf k d) img slot ≡ some file
-    → (name : List ℕ) → capitals (layoutOf k d) name ≡ file .name → callOf img (remove name) ≡ came done [] (removeImage (layoutOf k d) img slot)
+    → (name : List ℕ) → capitals (layoutOf k d) name ≡ file .name → callOf img (remove name (file .type)) ≡ came done [] (removeImage (layoutOf k d) img slot)
 spelling-removed = spelling.removed
 
 -- ---- Request three: a page carries on from the block it stands in, and what it cost is told
@@ -432,7 +435,7 @@ report-said k d = salvages.report-said (layoutOf k d)
 pub report-past : (k : Kind) (d : Density) (img report : List ℕ) (i : ℕ) → let l = layoutOf k d in l .slots ≤ i → getD (reportAfter l img report) i 0 ≡ getD report i 0
 report-past k d = salvages.report-past (layoutOf k d)
 
--- Slot by slot the number is the first that applies, names and chains compared with kept lower slots, chains judged on the map as given.
+-- Slot by slot the number is the first that applies, names with types and chains compared with kept lower slots, chains judged on the map as given.
 pub report-exactly : (k : Kind) (d : Density) (v : View) (s : ℕ) → s < layoutOf k d .slots → (n : ℕ) → (reportOf (layoutOf k d) v s ≡ n) ↔ Said (layoutOf k d) (diskAfter (layoutOf k d) v s) s n
 report-exactly k d = said.report-exactly (layoutOf k d) (layout-right k d)
 
@@ -549,7 +552,7 @@ s3000-put f n img accept name type content slot a = rw (second.put-writes S3000 
 -- Remove leaves 0,12.
 pub s3000-remove : (f n : ℕ) (img : List ℕ) → checkOf img ≡ Accepted S3000 High f n → (slot : ℕ) (file : File) → filesIn (layoutOf S3000 High) img slot ≡ some file
     → (name : List ℕ) → capitals (layoutOf S3000 High) name ≡ file .name
-    → viewOf (layoutOf S3000 High) (bytes (callOf img (remove name) .state)) .entry slot ≡ record { area = replicate 16 0; type = 0; size = 0; start = 0; identity = 3072 }
+    → viewOf (layoutOf S3000 High) (bytes (callOf img (remove name (file .type)) .state)) .entry slot ≡ record { area = replicate 16 0; type = 0; size = 0; start = 0; identity = 3072 }
 s3000-remove = second.remove-leaves S3000 High
 
 -- On S900 and S1000 disks no call changes an identity's bytes.
@@ -572,3 +575,57 @@ s3000-report img report known = salvaged.salvage-short S3000 High img known repo
 -- The first 17,408 bytes and the length decide the check of every kind.
 pub head-decides : (x y : List ℕ) → length x ≡ length y → take 17408 x ≡ take 17408 y → checkOf x ≡ checkOf y
 head-decides = head.head-decides
+
+-- ---- Request six: a program may share its sample's name
+
+-- Names differ within one type alone: 5 is given by `refused-exactly`, for a slot whose name and type stand in a lower used one (`Breaks` at `single`).
+pub one-of-a-type : (k : Kind) (d : Density) (f n : ℕ) (img : List ℕ) → checkOf img ≡ Accepted k d f n → Apart (filesIn (layoutOf k d) img)
+one-of-a-type = spelling.one-of-a-type
+
+-- The record is by name and type: of such files two of one name and two types are both found, each by its own, in two slots.
+pub both-found : (l : Layout) (files : Files) → Apart files → (name : List ℕ) (s t : ℕ) (a b : File) → s < l .slots → t < l .slots → files s ≡ some a → files t ≡ some b → capitals l name ≡ a .name
+    → capitals l name ≡ b .name → (a .type ≡ b .type → ⊥) → (slotOf l files name (a .type) ≡ At s) × (slotOf l files name (b .type) ≡ At t) × (s ≡ t → ⊥)
+both-found = known.both-found
+
+-- Find gives a slot exactly where it holds a file of that name and type, answers 10 exactly where none does, and 11 exactly where name or type is illegal.
+pub found-exactly : (k : Kind) (d : Density) (f n : ℕ) (img : List ℕ) → checkOf img ≡ Accepted k d f n → (name : List ℕ) (type slot : ℕ)
+    → (callOf img (find name type) ≡ came (valued slot) [] img) ↔ Holds (layoutOf k d) (filesIn (layoutOf k d) img) name type slot
+found-exactly = types.found-exactly
+
+pub missing-exactly : (k : Kind) (d : Density) (f n : ℕ) (img : List ℕ) → checkOf img ≡ Accepted k d f n → (name : List ℕ) (type : ℕ)
+    → (callOf img (find name type) ≡ came (refused 10 0) [] img)
+    ↔ ((isLegal (layoutOf k d) name type ≡ true) × ((s : ℕ) → Holds (layoutOf k d) (filesIn (layoutOf k d) img) name type s → ⊥))
+missing-exactly = types.missing-exactly
+
+pub illegal-exactly : (k : Kind) (d : Density) (f n : ℕ) (img : List ℕ) → checkOf img ≡ Accepted k d f n → (name : List ℕ) (type : ℕ)
+    → (callOf img (find name type) ≡ came (refused 11 0) [] img) ↔ (isLegal (layoutOf k d) name type ≡ false)
+illegal-exactly = types.illegal-exactly
+
+-- Remove is refused as find is, and else empties the slot that find gives.
+pub remove-refused : (k : Kind) (d : Density) (f n : ℕ) (img : List ℕ) → checkOf img ≡ Accepted k d f n → (name : List ℕ) (type : ℕ) (r : Refusal)
+    → callOf img (find name type) ≡ came (refusedBy r) [] img → callOf img (remove name type) ≡ came (refusedBy r) [] img
+remove-refused = types.refused-as-found
+
+pub remove-found : (k : Kind) (d : Density) (f n : ℕ) (img : List ℕ) → checkOf img ≡ Accepted k d f n → (name : List ℕ) (type slot : ℕ)
+    → callOf img (find name type) ≡ came (valued slot) [] img → callOf img (remove name type) ≡ came done [] (removeImage (layoutOf k d) img slot)
+remove-found = types.removed-as-found
+
+-- Put answers 12 at a slot exactly where it holds a file of that name and type.
+pub taken-exactly : (k : Kind) (d : Density) (f n : ℕ) (img : List ℕ) → checkOf img ≡ Accepted k d f n → (name : List ℕ) (type : ℕ) (content : List ℕ) → (length content ≡ 0 → ⊥) → (slot : ℕ)
+    → (callOf img (put name type content) .answer ≡ refused 12 slot) ↔ Holds (layoutOf k d) (filesIn (layoutOf k d) img) name type slot
+taken-exactly = types.taken-exactly
+
+-- A file's name may be put in a second type: the put is granted another slot, and on the image that it leaves both files are found, each by its own type.
+pub second-type : (k : Kind) (d : Density) (f n : ℕ) (img : List ℕ) → checkOf img ≡ Accepted k d f n → (slot : ℕ) (file : File) → filesIn (layoutOf k d) img slot ≡ some file
+    → (type : ℕ) → legalType (layoutOf k d) type ≡ true → ((s : ℕ) → Holds (layoutOf k d) (filesIn (layoutOf k d) img) (file .name) type s → ⊥) → (content : List ℕ) → (length content ≡ 0 → ⊥)
+    → blocksFor (length content) ≤ n → (s : ℕ) → s < layoutOf k d .slots → filesIn (layoutOf k d) img s ≡ none → FoundApart img slot file type content
+second-type = types.second-type
+
+-- A remove leaves every file of another type, whatever its name.
+pub other-type-stays : (k : Kind) (d : Density) (f n : ℕ) (img : List ℕ) → checkOf img ≡ Accepted k d f n → (s : ℕ) (file : File) → filesIn (layoutOf k d) img s ≡ some file
+    → (name : List ℕ) (type : ℕ) → (type ≡ file .type → ⊥) → filesIn (layoutOf k d) (callOf img (remove name type) .state) s ≡ some file
+other-type-stays = types.other-type-stays
+
+-- Salvage compares the same way: a slot is dropped for 5 exactly where it is used and well formed and a kept lower slot has its name and its type.
+pub report-five : (k : Kind) (d : Density) (v : View) (s : ℕ) → (reportOf (layoutOf k d) v s ≡ 5) ↔ ((used (v .entry s) ≡ true) × (formed (layoutOf k d) (v .entry s) ≡ true) × KeptBelow (layoutOf k d) v s)
+report-five k d = said.report-five (layoutOf k d)

@@ -33,12 +33,11 @@ use Rattle.layout.specs.Layouts.{layoutOf, lengthOf, headLength, blockOffset}
 use Rattle.layout.specs.Right.{LayoutRight, layout-right}
 use Rattle.blocks.specs.Blocks.{linksFor, blockAt}
 use Rattle.blocks.specs.Lemmas.Blocks.{read-cong}
-use Rattle.names.specs.Names.{legalName}
 use Rattle.map.specs.Map.{mapAt}
 use Rattle.map.specs.Lemmas.Chains.{length-chain, chain-cong, chain-data, chain-short}
 use Rattle.view.specs.Disk.{File, used, entryChain, chainOf, contentOf, filesOf}
 use Rattle.image.specs.Image.{viewOf, filesIn, PassedOver, InUse, DiskRules}
-use Rattle.record.specs.Record.{Call, list, find, page, refusedBy, Outcome, named, refuseIf, orRefuse, slotOf, fileAt, judgeName, listing, paging}
+use Rattle.record.specs.Record.{Call, list, find, page, refusedBy, Outcome, named, refuseIf, orRefuse, isLegal, slotOf, fileAt, judgeName, listing, paging}
 use Rattle.record.specs.Lemmas.Step.{list-output}
 use Rattle.record.specs.declared.Judged.{Judged}
 use Rattle.record.specs.declared.Judged.the-variants.{Grant}
@@ -152,17 +151,17 @@ module _ (x y : List ℕ) (same : SameRead x y) where
         let e-y = ap used (entry-same s h) ∙ e in
         rw (file-used l y s h e-y, file-used l x s h e, file-length l y s right rules-y h e-y, file-length l x s right rules-x h e, entry-same s h) refl
 
-    named-by : (name : List ℕ) (s : ℕ) → s < l .slots → (u : Bool) → used (viewOf l (bytes x) .entry s) ≡ u → named l name (filesIn l y s) ≡ named l name (filesIn l x s)
+    named-by : (name : List ℕ) (type s : ℕ) → s < l .slots → (u : Bool) → used (viewOf l (bytes x) .entry s) ≡ u → named l name type (filesIn l y s) ≡ named l name type (filesIn l x s)
     unfolding filesOf
-    named-by name s h false e = rw (lt-ltb s (l .slots) h, ap used (entry-same s h) ∙ e, e) refl
-    named-by name s h true e = rw (lt-ltb s (l .slots) h, ap used (entry-same s h) ∙ e, e, entry-same s h) refl
+    named-by name type s h false e = rw (lt-ltb s (l .slots) h, ap used (entry-same s h) ∙ e, e) refl
+    named-by name type s h true e = rw (lt-ltb s (l .slots) h, ap used (entry-same s h) ∙ e, e, entry-same s h) refl
 
-    judge-same : (name : List ℕ) → judgeName l (filesIn l y) name ≡ judgeName l (filesIn l x) name
+    judge-same : (name : List ℕ) (type : ℕ) → judgeName l (filesIn l y) name type ≡ judgeName l (filesIn l x) name type
     unfolding judgeName slotOf
-    judge-same name =
-        ap (λ (w : Lowest). refuseIf (not (legalName l name)) 11 (orRefuse 10 w (λ s. Grant s)))
-        (lowest-cong (λ s. named l name (filesIn l y s)) (λ s. named l name (filesIn l x s)) 0 (l .slots)
-        (λ s p q. named-by name s (omega arith) (used (viewOf l (bytes x) .entry s)) refl))
+    judge-same name type =
+        ap (λ (w : Lowest). refuseIf (not (isLegal l name type)) 11 (orRefuse 10 w (λ s. Grant s)))
+        (lowest-cong (λ s. named l name type (filesIn l y s)) (λ s. named l name type (filesIn l x s)) 0 (l .slots)
+        (λ s p q. named-by name type s (omega arith) (used (viewOf l (bytes x) .entry s)) refl))
 
     -- a file's content, where y holds the slot's blocks
     module _ (s : ℕ) (held : (b : ℕ) → In b (fileBlocks l x s) → blockAt (bytes y) b ≡ blockAt (bytes x) b) where
@@ -231,16 +230,16 @@ module _ (x y : List ℕ) (same : SameRead x y) where
           }
 
   -- So does a find.
-  pub find-enough : (name : List ℕ) → Alike x y (find name)
-  find-enough name = go (checkOf x) refl
+  pub find-enough : (name : List ℕ) (type : ℕ) → Alike x y (find name type)
+  find-enough name type = go (checkOf x) refl
     where
-      go : (c : Checked) → checkOf x ≡ c → Alike x y (find name)
-      go (Refused r) e = refused-alike e (find name) (λ z q. refl)
+      go : (c : Checked) → checkOf x ≡ c → Alike x y (find name type)
+      go (Refused r) e = refused-alike e (find name type) (λ z q. refl)
       go (Accepted k d f n) e =
-          let a = find-done x refl e refl name refl refl in
-          let b = find-done y refl (check-same x y same ∙ e) refl name refl refl in
+          let a = find-done x refl e refl name type refl refl in
+          let b = find-done y refl (check-same x y same ∙ e) refl name type refl refl in
           record {
-            answer = ap (λ (o : Outcome (List ℕ)). o .answer) (sym b) ∙ ap (λ (j : Judged). foundOf (foundBy j)) (judge-same x y same e name) ∙ ap (λ (o : Outcome (List ℕ)). o .answer) a;
+            answer = ap (λ (o : Outcome (List ℕ)). o .answer) (sym b) ∙ ap (λ (j : Judged). foundOf (foundBy j)) (judge-same x y same e name type) ∙ ap (λ (o : Outcome (List ℕ)). o .answer) a;
             output = ap (λ (o : Outcome (List ℕ)). o .output) (sym b) ∙ ap (λ (o : Outcome (List ℕ)). o .output) a;
           }
 

@@ -21,12 +21,12 @@ isKept report s = eqb (getD report s 0) 1
 abbrev pub isDropped : List ℕ → ℕ → Bool
 isDropped report s = drops (getD report s 0)
 
--- A kept slot with the name of slot s.
+-- A kept slot with the name and the type of slot s.
 unfoldable pub keptName : Layout → View → List ℕ → ℕ → ℕ → Bool
 unfolding hasNameOf
 keptName l v report s t = both (isKept report t) (hasNameOf l v s t)
 
--- What the report notes of a slot before the slots are judged: whether a lower used slot has its name.
+-- What the report notes of a slot before the slots are judged: whether a lower used slot has its name and type.
 abbrev pub nameNote : Layout → View → ℕ → ℕ
 nameNote l v s = pick (repeated l v s) 1 0
 

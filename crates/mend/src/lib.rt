@@ -19,7 +19,7 @@ ghost use Rattle.slots.specs.Keys.{hasKeys};
 ghost use Rattle.salvage.specs.Salvage.{drops, diskAfter, reportOf, survivors, eraseSlots, wrongSystem, salvageImage, mapChanges, reportAfter};
 ghost use Rattle.mend.specs.Steps.{isKept, keptName, nameNote, usedEnd, Reported, chainSaid, Noted, isDropped, isLost, Judging};
 
-// Whether a slot is kept and its name's two halves have these keys. Few names are alike, so the keys are asked first.
+// Whether a slot is kept, its name's two halves have these keys and its type is this one. Few names are alike, so the keys are asked first.
 fn kept_with(
     image: &[u8],
     layout: layout::Layout,
@@ -27,17 +27,18 @@ fn kept_with(
     slot: usize,
     low: usize,
     high: usize,
+    letter: u8,
 ) -> bool
     requires { ⌜ (slotOffset layout slot + 24 ≤ length (now image)) × (slot < length (now report)) ⌝ }
-    ensures { λ r. ⌜ r ≡ both (isKept (now (report .entry)) slot) (hasKeys layout (bytes (now (image .entry))) slot low high) ⌝ }
+    ensures { λ r. ⌜ r ≡ both (isKept (now (report .entry)) slot) (hasKeys layout (bytes (now (image .entry))) slot low high letter) ⌝ }
 {
-    if !slots::has_keys(image, layout, slot, low, high) {
+    if !slots::has_keys(image, layout, slot, low, high, letter) {
         return false;
     }
     report[slot] == 1
 }
 
-// Whether a kept slot below has a slot's name; the report says which are kept. The name's keys are read once.
+// Whether a kept slot below has a slot's name and type; the report says which are kept. Keys and type are read once.
 fn name_kept(image: &[u8], layout: layout::Layout, report: &[u8], slot: usize) -> bool
     requires { ⌜ (slotOffset layout slot + 24 ≤ length (now image)) × (slot ≤ length (now report)) ⌝ }
     ensures { λ r. ⌜ r ≡ any (keptName layout (viewOf layout (bytes (now (image .entry)))) (now (report .entry)) slot) 0 slot ⌝ }
@@ -45,9 +46,10 @@ fn name_kept(image: &[u8], layout: layout::Layout, report: &[u8], slot: usize) -
     let at = layout.directory + 24 * slot;
     let low = slots::key(image, at);
     let high = slots::key(image, at + 8);
+    let letter = slots::type_of(image, layout, slot);
     let mut lower = 0;
     while lower < slot {
-        if kept_with(image, layout, report, lower, low, high) {
+        if kept_with(image, layout, report, lower, low, high, letter) {
             return true;
         }
         lower += 1;
@@ -55,7 +57,7 @@ fn name_kept(image: &[u8], layout: layout::Layout, report: &[u8], slot: usize) -
     false
 }
 
-// Whether a kept slot below has a slot's name. They are gone through only where a used one has it.
+// Whether a kept slot below has a slot's name and type. They are gone through only where a used one has them.
 fn name_stands(
     image: &[u8],
     layout: layout::Layout,

@@ -5,4 +5,5 @@ pub mod Others
 pub mod Outside
 pub mod Download
 pub mod Spelling
+pub mod Types
 pub mod Lemmas

@@ -12,26 +12,25 @@ use borrow.Author.Tests.{eq-eqb, ne-eqb, lt-ltb}
 use Rattle.laws.specs.declared.Lowest.the-variants.{At, Nowhere}
 use Rattle.layout.specs.declared.Layout.{Layout}
 use Rattle.blocks.specs.Blocks.{blocksFor}
-use Rattle.names.specs.Names.{legalName, legalType}
 use Rattle.view.specs.Disk.{File}
-use Rattle.record.specs.Record.{Shape, Files, list, page, refused, refuse, refuseIf, slotOf, emptySlot, free, judgeName, judgePut, fileAt, stepFiles}
+use Rattle.record.specs.Record.{Shape, Files, list, page, refused, refuse, refuseIf, isLegal, slotOf, emptySlot, free, judgeName, judgePut, fileAt, stepFiles}
 use Rattle.record.specs.declared.Judged.{Judged}
 use Rattle.record.specs.declared.Judged.the-variants.{Grant}
 
 -- ---- find and remove
 
-module _ (l : Layout) (files : Files) (name : List ℕ) where
+module _ (l : Layout) (files : Files) (name : List ℕ) (type : ℕ) where
   -- whether a file has the name or not
-  pub order-illegal : legalName l name ≡ false → judgeName l files name ≡ refuse 11 0
+  pub order-illegal : isLegal l name type ≡ false → judgeName l files name type ≡ refuse 11 0
   unfolding judgeName
   order-illegal e = rw e refl
 
-  module _ (legal : legalName l name ≡ true) where
-    pub order-missing : slotOf l files name ≡ Nowhere → judgeName l files name ≡ refuse 10 0
+  module _ (legal : isLegal l name type ≡ true) where
+    pub order-missing : slotOf l files name type ≡ Nowhere → judgeName l files name type ≡ refuse 10 0
     unfolding judgeName
     order-missing e = rw (legal, e) refl
 
-    pub order-found : {s : ℕ} → slotOf l files name ≡ At s → judgeName l files name ≡ Grant s
+    pub order-found : {s : ℕ} → slotOf l files name type ≡ At s → judgeName l files name type ≡ Grant s
     unfolding judgeName
     order-found e = rw (legal, e) refl
 
@@ -59,30 +58,26 @@ abbrev pub roomFor : ℕ → ℕ → ℕ → Judged
 roomFor free size slot = refuseIf (ltb free (blocksFor size)) 15 (refuseIf (ltb 16777215 size) 16 (Grant slot))
 
 module _ (l : Layout) (files : Files) (name : List ℕ) (type : ℕ) (content : List ℕ) where
-  pub order-name : legalName l name ≡ false → judgePut l files name type content ≡ refuse 11 0
+  pub order-unfit : isLegal l name type ≡ false → judgePut l files name type content ≡ refuse 11 0
   unfolding judgePut
-  order-name e = rw e refl
+  order-unfit e = rw e refl
 
-  pub order-type : legalName l name ≡ true → legalType l type ≡ false → judgePut l files name type content ≡ refuse 11 0
-  unfolding judgePut
-  order-type legal e = rw (legal, e) refl
-
-  module _ (legal : legalName l name ≡ true) (typed : legalType l type ≡ true) where
+  module _ (legal : isLegal l name type ≡ true) where
     pub order-empty : length content ≡ 0 → judgePut l files name type content ≡ refuse 13 0
     unfolding judgePut
-    order-empty e = rw (legal, typed, eq-eqb (length content) 0 e) refl
+    order-empty e = rw (legal, eq-eqb (length content) 0 e) refl
 
     module _ (some : length content ≡ 0 → ⊥) where
       -- with an empty slot or without
-      pub order-taken : {s : ℕ} → slotOf l files name ≡ At s → judgePut l files name type content ≡ refuse 12 s
+      pub order-taken : {s : ℕ} → slotOf l files name type ≡ At s → judgePut l files name type content ≡ refuse 12 s
       unfolding judgePut
-      order-taken e = rw (legal, typed, ne-eqb (length content) 0 some, e) refl
+      order-taken e = rw (legal, ne-eqb (length content) 0 some, e) refl
 
       -- with room or without
-      pub order-full : slotOf l files name ≡ Nowhere → emptySlot l files ≡ Nowhere → judgePut l files name type content ≡ refuse 14 0
+      pub order-full : slotOf l files name type ≡ Nowhere → emptySlot l files ≡ Nowhere → judgePut l files name type content ≡ refuse 14 0
       unfolding judgePut
-      order-full new e = rw (legal, typed, ne-eqb (length content) 0 some, new, e) refl
+      order-full new e = rw (legal, ne-eqb (length content) 0 some, new, e) refl
 
-      pub order-room : {s : ℕ} → slotOf l files name ≡ Nowhere → emptySlot l files ≡ At s → judgePut l files name type content ≡ roomFor (free l files) (length content) s
+      pub order-room : {s : ℕ} → slotOf l files name type ≡ Nowhere → emptySlot l files ≡ At s → judgePut l files name type content ≡ roomFor (free l files) (length content) s
       unfolding judgePut
-      order-room new e = rw (legal, typed, ne-eqb (length content) 0 some, new, e) refl
+      order-room new e = rw (legal, ne-eqb (length content) 0 some, new, e) refl

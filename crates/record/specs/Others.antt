@@ -1,5 +1,5 @@
 -- A file that a call doesn't remove keeps slot, name, type and content (demand 3, "files not named by the call").
--- A put is granted an empty slot, a remove the slot that has its name. Assumes nothing.
+-- A put is granted an empty slot, a remove the slot that has its name and type. Assumes nothing.
 use mathlib.Core.Path.{_≡_, refl, sym, ap, _∙_}
 use mathlib.Core.Bool.{true, true≢false}
 use mathlib.Core.List.{List}
@@ -31,12 +31,12 @@ module _ (shape : Shape) (files : Files) (t : ℕ) (f : File) (there : files t �
       let w = at→ (λ x. isEmpty (files x)) 0 (l .slots) s (unfold emptySlot in granted-put l files name type content s e .slot) in
       rw e (other-slot s _ (λ q. true≢false (sym (w .2) ∙ ap (λ (x : ℕ). isEmpty (files x)) (sym q) ∙ ap isEmpty there)))
 
-  remove-keeps : (name : List ℕ) (j : Judged) → judgeName l files name ≡ j → (isNamed l name f ≡ true → ⊥) → stepFiles shape files (remove name) .state t ≡ some f
+  remove-keeps : (name : List ℕ) (type : ℕ) (j : Judged) → judgeName l files name type ≡ j → (isNamed l name type f ≡ true → ⊥) → stepFiles shape files (remove name type) .state t ≡ some f
   unfolding stepFiles
-  remove-keeps name (Refuse r) e ne = rw e there
-  remove-keeps name (Grant s) e ne =
-      let w = at→ (λ x. named l name (files x)) 0 (l .slots) s (unfold slotOf in granted-name l files name s e) in
-      rw e (other-slot s none (λ q. ne (sym (ap (named l name) there) ∙ ap (λ (x : ℕ). named l name (files x)) q ∙ w .2)))
+  remove-keeps name type (Refuse r) e ne = rw e there
+  remove-keeps name type (Grant s) e ne =
+      let w = at→ (λ x. named l name type (files x)) 0 (l .slots) s (unfold slotOf in granted-name l files name type s e) in
+      rw e (other-slot s none (λ q. ne (sym (ap (named l name type) there) ∙ ap (λ (x : ℕ). named l name type (files x)) q ∙ w .2)))
 
   reading : (c : Call) → Reading c → stepFiles shape files c .state t ≡ some f
   reading c r = ap (λ (x : Files). x t) (reading-keeps shape files c r) ∙ there
@@ -44,8 +44,8 @@ module _ (shape : Shape) (files : Files) (t : ℕ) (f : File) (there : files t �
   pub others : (c : Call) → (Removes l c f → ⊥) → stepFiles shape files c .state t ≡ some f
   others check n = reading check reads-check
   others (list s) n = reading (list s) (reads-list s)
-  others (find name) n = reading (find name) (reads-find name)
+  others (find name type) n = reading (find name type) (reads-find name type)
   others (page s offset out) n = reading (page s offset out) (reads-page s offset out)
   others (put name type content) n = put-keeps name type content (judgePut l files name type content) refl
-  others (remove name) n = remove-keeps name (judgeName l files name) refl (λ e. n (name, refl, e))
+  others (remove name type) n = remove-keeps name type (judgeName l files name type) refl (λ e. n (name, type, refl, e))
   others (salvage report) n = reading (salvage report) (reads-salvage report)

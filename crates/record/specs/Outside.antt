@@ -25,10 +25,10 @@ use Rattle.record.specs.Step.{imageAfter}
 abbrev pub Touches : Layout → List ℕ → Call → ℕ → Type 0
 Touches l img check i = ⊥
 Touches l img (list s) i = ⊥
-Touches l img (find name) i = ⊥
+Touches l img (find name type) i = ⊥
 Touches l img (page s offset out) i = ⊥
 Touches l img (put name type content) i = (s : ℕ) × (judgePut l (filesIn l img) name type content ≡ Grant s) × PutTouches l img s content i
-Touches l img (remove name) i = (s : ℕ) × (judgeName l (filesIn l img) name ≡ Grant s) × RemoveTouches l img s i
+Touches l img (remove name type) i = (s : ℕ) × (judgeName l (filesIn l img) name type ≡ Grant s) × RemoveTouches l img s i
 Touches l img (salvage report) i = ⊥
 
 -- Whatever the call, these are bytes of slots, map values of data blocks, and data blocks.
@@ -42,16 +42,16 @@ module _ (l : Layout) (right : LayoutRight l) where
     unfolding imageAfter
     step-outside check out = refl
     step-outside (list s) out = refl
-    step-outside (find name) out = refl
+    step-outside (find name type) out = refl
     step-outside (page s offset o) out = refl
     step-outside (put name type content) out = go (judgePut l (filesIn l img) name type content) refl
       where
         go : (j : Judged) → judgePut l (filesIn l img) name type content ≡ j → bytes (imageAfter l img (put name type content)) i ≡ bytes img i
         go (Refuse r) e = rw e refl
         go (Grant s) e = rw e (put-outside l img s right name (granted-put l (filesIn l img) name type content s e .name-legal) type content i (λ p. out (s, e, p)))
-    step-outside (remove name) out = go (judgeName l (filesIn l img) name) refl
+    step-outside (remove name type) out = go (judgeName l (filesIn l img) name type) refl
       where
-        go : (j : Judged) → judgeName l (filesIn l img) name ≡ j → bytes (imageAfter l img (remove name)) i ≡ bytes img i
+        go : (j : Judged) → judgeName l (filesIn l img) name type ≡ j → bytes (imageAfter l img (remove name type)) i ≡ bytes img i
         go (Refuse r) e = rw e refl
         go (Grant s) e = rw e (remove-outside l img s i (λ p. out (s, e, p)))
     step-outside (salvage report) out = refl
@@ -62,17 +62,17 @@ module _ (l : Layout) (right : LayoutRight l) where
       put-where name type content s e (inr (inl p)) = inr (inl (p .0, chosen-inside l right img rules name type content s e (p .0) (p .1), p .2))
       put-where name type content s e (inr (inr p)) = inr (inr (p .0, chosen-inside l right img rules name type content s e (p .0) (p .1), p .2))
 
-      remove-where : (name : List ℕ) (s : ℕ) → judgeName l (filesIn l img) name ≡ Grant s → RemoveTouches l img s i → Changeable l i
-      remove-where name s e (inl p) = inl (s, remove-slot l right img rules name s e .0, (p .0, omega (arith, p .1)))
-      remove-where name s e (inr p) = inr (inl (p .0, remove-inside l right img rules name s e (p .0) (p .1), p .2))
+      remove-where : (name : List ℕ) (type s : ℕ) → judgeName l (filesIn l img) name type ≡ Grant s → RemoveTouches l img s i → Changeable l i
+      remove-where name type s e (inl p) = inl (s, remove-slot l right img rules name type s e .0, (p .0, omega (arith, p .1)))
+      remove-where name type s e (inr p) = inr (inl (p .0, remove-inside l right img rules name type s e (p .0) (p .1), p .2))
 
       pub touches-where : (c : Call) → Touches l img c i → Changeable l i
       touches-where check t = absurd t
       touches-where (list s) t = absurd t
-      touches-where (find name) t = absurd t
+      touches-where (find name type) t = absurd t
       touches-where (page s offset o) t = absurd t
       touches-where (put name type content) t = put-where name type content (t .0) (t .1) (t .2)
-      touches-where (remove name) t = remove-where name (t .0) (t .1) (t .2)
+      touches-where (remove name type) t = remove-where name type (t .0) (t .1) (t .2)
       touches-where (salvage report) t = absurd t
 
   -- ---- what no call changes
@@ -125,8 +125,8 @@ module _ (l : Layout) (right : LayoutRight l) where
         out (inr (inl q)) = elsewhere (inl (q .0, chosen-inside l right img rules name type content t e (q .0) (q .1), q .2))
         out (inr (inr q)) = elsewhere (inr (q .0, chosen-inside l right img rules name type content t e (q .0) (q .1), q .2))
 
-    remove-keeps : (name : List ℕ) (t : ℕ) → judgeName l (filesIn l img) name ≡ Grant t → bytes (removeImage l img t) i ≡ bytes img i
-    remove-keeps name t e = remove-outside l img t i out
+    remove-keeps : (name : List ℕ) (type t : ℕ) → judgeName l (filesIn l img) name type ≡ Grant t → bytes (removeImage l img t) i ≡ bytes img i
+    remove-keeps name type t e = remove-outside l img t i out
       where
         -- what remove clears ends before the identity
         cleared : Dec (t ≡ s) → InEntry l t i → ⊥
@@ -135,22 +135,22 @@ module _ (l : Layout) (right : LayoutRight l) where
 
         out : RemoveTouches l img t i → ⊥
         out (inl q) = cleared (ℕ-discrete t s) q
-        out (inr q) = elsewhere (inl (q .0, remove-inside l right img rules name t e (q .0) (q .1), q .2))
+        out (inr q) = elsewhere (inl (q .0, remove-inside l right img rules name type t e (q .0) (q .1), q .2))
 
     pub identity-fixed : (c : Call) → bytes (imageAfter l img c) i ≡ bytes img i
     unfolding imageAfter
     identity-fixed check = refl
     identity-fixed (list t) = refl
-    identity-fixed (find name) = refl
+    identity-fixed (find name type) = refl
     identity-fixed (page t offset o) = refl
     identity-fixed (put name type content) = go (judgePut l (filesIn l img) name type content) refl
       where
         go : (j : Judged) → judgePut l (filesIn l img) name type content ≡ j → bytes (imageAfter l img (put name type content)) i ≡ bytes img i
         go (Refuse r) e = rw e refl
         go (Grant t) e = rw e (put-keeps name type content t e (ℕ-discrete t s))
-    identity-fixed (remove name) = go (judgeName l (filesIn l img) name) refl
+    identity-fixed (remove name type) = go (judgeName l (filesIn l img) name type) refl
       where
-        go : (j : Judged) → judgeName l (filesIn l img) name ≡ j → bytes (imageAfter l img (remove name)) i ≡ bytes img i
+        go : (j : Judged) → judgeName l (filesIn l img) name type ≡ j → bytes (imageAfter l img (remove name type)) i ≡ bytes img i
         go (Refuse r) e = rw e refl
-        go (Grant t) e = rw e (remove-keeps name t e)
+        go (Grant t) e = rw e (remove-keeps name type t e)
     identity-fixed (salvage report) = refl

@@ -41,14 +41,14 @@ shapeOf k d = record { kind = k; density = d; layout = layoutOf k d }
 abbrev pub Files : Type 0
 Files = ℕ → Option File
 
--- The calls with their arguments; a page lends its output, a salvage its report.
+-- The calls with their arguments: find and remove take a name and a type, put these and a content; a page lends its output, a salvage its report.
 pub data Call : Type 0 where
   check : Call
   list : ℕ → Call
-  find : List ℕ → Call
+  find : List ℕ → ℕ → Call
   page : ℕ → ℕ → List ℕ → Call
   put : List ℕ → ℕ → List ℕ → Call
-  remove : List ℕ → Call
+  remove : List ℕ → ℕ → Call
   salvage : List ℕ → Call
 
 -- A call's answer: its fields are read, and those that the call doesn't give are 0 or empty.
@@ -149,17 +149,22 @@ abbrev pub orRefuse : ℕ → Lowest → (ℕ → Judged) → Judged
 orRefuse n (At s) next = next s
 orRefuse n Nowhere next = refuse n 0
 
--- A name as a caller gives it is a file's if its capitals are the file's name (document 02, request two); find, put and remove ask nothing else of names.
-abbrev pub isNamed : Layout → List ℕ → File → Bool
-isNamed l name f = same (capitals l name) (f .name)
+-- A file of the disk may have this name and this type; a call that gives others is refused by 11.
+abbrev pub isLegal : Layout → List ℕ → ℕ → Bool
+isLegal l name type = both (legalName l name) (legalType l type)
 
-abbrev pub named : Layout → List ℕ → Option File → Bool
-named l name none = false
-named l name (some f) = isNamed l name f
+-- A name and a type as a caller gives them are a file's if the name's capitals are its name and the type is its type (document 02, requests two and six);
+-- find, put and remove ask nothing else of files.
+abbrev pub isNamed : Layout → List ℕ → ℕ → File → Bool
+isNamed l name type f = both (same (capitals l name) (f .name)) (eqb type (f .type))
+
+abbrev pub named : Layout → List ℕ → ℕ → Option File → Bool
+named l name type none = false
+named l name type (some f) = isNamed l name type f
 
 -- The call removes this file, if a slot holds it: the one way in which demand 3 lets a call name a file that was there.
 abbrev pub Removes : Layout → Call → File → Type 0
-Removes l c f = (name : List ℕ) × (c ≡ remove name) × (isNamed l name f ≡ true)
+Removes l c f = (name : List ℕ) × (type : ℕ) × (c ≡ remove name type) × (isNamed l name type f ≡ true)
 
 -- The file that a put leaves: the record keeps capitals.
 abbrev pub keptFile : Layout → List ℕ → ℕ → List ℕ → File
@@ -174,10 +179,10 @@ unfoldable pub replaced : Files → ℕ → Option File → Files
 replaced files s f t = pick (eqb t s) f (files t)
 
 module _ (l : Layout) (files : Files) where
-  -- the slot that has the name
-  unfoldable pub slotOf : List ℕ → Lowest
+  -- the slot that has the name and the type
+  unfoldable pub slotOf : List ℕ → ℕ → Lowest
   unfolding lowest same capitals
-  slotOf name = lowest (λ s. named l name (files s)) 0 (l .slots)
+  slotOf name type = lowest (λ s. named l name type (files s)) 0 (l .slots)
 
   -- the lowest empty slot
   unfoldable pub emptySlot : Lowest
@@ -194,17 +199,17 @@ module _ (l : Layout) (files : Files) where
   free = l .blocks - l .first - total (λ s. takes (files s)) 0 (l .slots)
 
   -- find and remove: 11, 10
-  unfoldable pub judgeName : List ℕ → Judged
-  unfolding legalName slotOf
-  judgeName name = refuseIf (not (legalName l name)) 11 (orRefuse 10 (slotOf name) (λ s. Grant s))
+  unfoldable pub judgeName : List ℕ → ℕ → Judged
+  unfolding legalName legalType slotOf
+  judgeName name type = refuseIf (not (isLegal l name type)) 11 (orRefuse 10 (slotOf name type) (λ s. Grant s))
 
   -- put: 11, 13, 12, 14, 15, 16
   unfoldable pub judgePut : List ℕ → ℕ → List ℕ → Judged
   unfolding legalName legalType slotOf emptySlot free
   judgePut name type content =
-      refuseIf (not (both (legalName l name) (legalType l type))) 11
+      refuseIf (not (isLegal l name type)) 11
       (refuseIf (eqb (length content) 0) 13
-      (refuseAt 12 (slotOf name)
+      (refuseAt 12 (slotOf name type)
       (orRefuse 14 emptySlot (λ s.
       refuseIf (ltb free (blocksFor (length content))) 15
       (refuseIf (ltb 16777215 (length content)) 16
@@ -263,9 +268,9 @@ unfolding judgeName judgePut fileAt fileCount free replaced part keptReport
 stepFiles shape files check =
     answered files (accepted (shape .kind) (shape .density) (fileCount (shape .layout) files) (free (shape .layout) files))
 stepFiles shape files (list s) = listing files (fileAt (shape .layout) files s)
-stepFiles shape files (find name) = finding files (judgeName (shape .layout) files name)
+stepFiles shape files (find name type) = finding files (judgeName (shape .layout) files name type)
 stepFiles shape files (page s offset out) = paging files (fileAt (shape .layout) files s) offset out
 stepFiles shape files (put name type content) =
     putting files (λ s. replaced files s (some (keptFile (shape .layout) name type content))) (judgePut (shape .layout) files name type content)
-stepFiles shape files (remove name) = removing files (λ s. replaced files s none) (judgeName (shape .layout) files name)
+stepFiles shape files (remove name type) = removing files (λ s. replaced files s none) (judgeName (shape .layout) files name type)
 stepFiles shape files (salvage report) = salvaging files (shape .layout) files report

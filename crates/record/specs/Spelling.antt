@@ -1,11 +1,10 @@
 -- A name may be typed in any spelling (document 02, request two): a call comes to the same as with its name in capitals, on the record and on an image.
 -- A name and its capitals are legal together, find one slot, keep one file and are stored as one area. Assumes nothing.
-use mathlib.Core.Path.{_≡_, refl, ap}
+use mathlib.Core.Path.{_≡_, refl}
 use mathlib.Core.List.{List}
 use mathlib.Core.Option.{Option, none, some}
 use Prim.Native.Nat.{ℕ}
 use Rattle.laws.specs.Lemmas.Scan.{lowest-cong}
-use Rattle.laws.specs.Lists.{same}
 use Rattle.layout.specs.declared.Layout.{Layout}
 use Rattle.names.specs.Names.{capitals}
 use Rattle.names.specs.NameLaws.{capitals-twice, capitals-legal, capitals-area}
@@ -20,38 +19,38 @@ use Rattle.record.specs.Step.{after, imageAfter, stepImage}
 abbrev pub inCapitals : Layout → Call → Call
 inCapitals l check = check
 inCapitals l (list s) = list s
-inCapitals l (find name) = find (capitals l name)
+inCapitals l (find name type) = find (capitals l name) type
 inCapitals l (page s offset out) = page s offset out
 inCapitals l (put name type content) = put (capitals l name) type content
-inCapitals l (remove name) = remove (capitals l name)
+inCapitals l (remove name type) = remove (capitals l name) type
 inCapitals l (salvage report) = salvage report
 
-module _ (l : Layout) (files : Files) (name : List ℕ) where
-  named-spelled : (w : Option File) → named l (capitals l name) w ≡ named l name w
+module _ (l : Layout) (files : Files) (name : List ℕ) (type : ℕ) where
+  named-spelled : (w : Option File) → named l (capitals l name) type w ≡ named l name type w
   named-spelled none = refl
-  named-spelled (some f) = ap (λ (n : List ℕ). same n (f .name)) (capitals-twice l name)
+  named-spelled (some f) = rw (capitals-twice l name) refl
 
-  slot-spelled : slotOf l files (capitals l name) ≡ slotOf l files name
+  slot-spelled : slotOf l files (capitals l name) type ≡ slotOf l files name type
   unfolding slotOf
-  slot-spelled = lowest-cong (λ s. named l (capitals l name) (files s)) (λ s. named l name (files s)) 0 (l .slots) (λ s p q. named-spelled (files s))
+  slot-spelled = lowest-cong (λ s. named l (capitals l name) type (files s)) (λ s. named l name type (files s)) 0 (l .slots) (λ s p q. named-spelled (files s))
 
-  name-spelled : judgeName l files (capitals l name) ≡ judgeName l files name
+  name-spelled : judgeName l files (capitals l name) type ≡ judgeName l files name type
   unfolding judgeName
   name-spelled = rw (capitals-legal l name, slot-spelled) refl
 
-  put-spelled : (type : ℕ) (content : List ℕ) → judgePut l files (capitals l name) type content ≡ judgePut l files name type content
+  put-spelled : (content : List ℕ) → judgePut l files (capitals l name) type content ≡ judgePut l files name type content
   unfolding judgePut
-  put-spelled type content = rw (capitals-legal l name, slot-spelled) refl
+  put-spelled content = rw (capitals-legal l name, slot-spelled) refl
 
 -- the record
 pub files-spelled : (shape : Shape) (files : Files) (c : Call) → stepFiles shape files (inCapitals (shape .layout) c) ≡ stepFiles shape files c
 unfolding stepFiles
 files-spelled shape files check = refl
 files-spelled shape files (list s) = refl
-files-spelled shape files (find name) = rw (name-spelled (shape .layout) files name) refl
+files-spelled shape files (find name type) = rw (name-spelled (shape .layout) files name type) refl
 files-spelled shape files (page s offset out) = refl
 files-spelled shape files (put name type content) = rw (put-spelled (shape .layout) files name type content, capitals-twice (shape .layout) name) refl
-files-spelled shape files (remove name) = rw (name-spelled (shape .layout) files name) refl
+files-spelled shape files (remove name type) = rw (name-spelled (shape .layout) files name type) refl
 files-spelled shape files (salvage report) = refl
 
 -- the image
@@ -65,11 +64,11 @@ after-spelled : (l : Layout) (img : List ℕ) (c : Call) → imageAfter l img (i
 unfolding imageAfter
 after-spelled l img check = refl
 after-spelled l img (list s) = refl
-after-spelled l img (find name) = refl
+after-spelled l img (find name type) = refl
 after-spelled l img (page s offset out) = refl
 after-spelled l img (put name type content) =
     rw (put-spelled l (filesIn l img) name type content) (put-image l img name type content (judgePut l (filesIn l img) name type content))
-after-spelled l img (remove name) = rw (name-spelled l (filesIn l img) name) refl
+after-spelled l img (remove name type) = rw (name-spelled l (filesIn l img) name type) refl
 after-spelled l img (salvage report) = refl
 
 pub image-spelled : (shape : Shape) (img : List ℕ) (c : Call) → stepImage shape img (inCapitals (shape .layout) c) ≡ stepImage shape img c

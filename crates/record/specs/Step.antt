@@ -16,10 +16,10 @@ unfoldable pub imageAfter : Layout → List ℕ → Call → List ℕ
 unfolding putImage removeImage judgePut judgeName
 imageAfter l img check = img
 imageAfter l img (list s) = img
-imageAfter l img (find name) = img
+imageAfter l img (find name type) = img
 imageAfter l img (page s offset out) = img
 imageAfter l img (put name type content) = after img (λ s. putImage l img s name type content) (judgePut l (filesIn l img) name type content)
-imageAfter l img (remove name) = after img (removeImage l img) (judgeName l (filesIn l img) name)
+imageAfter l img (remove name type) = after img (removeImage l img) (judgeName l (filesIn l img) name type)
 imageAfter l img (salvage report) = img
 
 -- What a call comes to on an image that was accepted: answer and output are the record's at its files.
@@ -33,6 +33,6 @@ stepImage shape img c =
 pub data Reading : Call → Type 0 where
   reads-check : Reading check
   reads-list : (s : ℕ) → Reading (list s)
-  reads-find : (name : List ℕ) → Reading (find name)
+  reads-find : (name : List ℕ) (type : ℕ) → Reading (find name type)
   reads-page : (s offset : ℕ) (out : List ℕ) → Reading (page s offset out)
   reads-salvage : (report : List ℕ) → Reading (salvage report)

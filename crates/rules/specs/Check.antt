@@ -131,10 +131,10 @@ refusalOf (Refused r) = r
 abbrev pub lent : Call → List ℕ
 lent check = []
 lent (list s) = []
-lent (find name) = []
+lent (find name type) = []
 lent (page s offset out) = out
 lent (put name type content) = []
-lent (remove name) = []
+lent (remove name type) = []
 lent (salvage report) = report
 
 -- What a call comes to: its answer, the lent output afterwards, the image afterwards.
@@ -161,10 +161,10 @@ salvageOf img report = salvageKnown (knownOf img) img report
 abbrev pub unaccepted : Refusal → List ℕ → Call → Outcome (List ℕ)
 unaccepted r img check = came (refusedBy r) [] img
 unaccepted r img (list s) = came (refusedBy r) [] img
-unaccepted r img (find name) = came (refusedBy r) [] img
+unaccepted r img (find name type) = came (refusedBy r) [] img
 unaccepted r img (page s offset out) = came (refusedBy r) out img
 unaccepted r img (put name type content) = came (refusedBy r) [] img
-unaccepted r img (remove name) = came (refusedBy r) [] img
+unaccepted r img (remove name type) = came (refusedBy r) [] img
 unaccepted r img (salvage report) = salvageOf img report
 
 abbrev pub callBy : Checked → List ℕ → Call → Outcome (List ℕ)

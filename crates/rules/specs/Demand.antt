@@ -11,7 +11,7 @@ use native.Mathlib.Omega.{arith}
 use lib.Dec.{ltb, eqb}
 use lib.ListN.{length, drop}
 use borrow.Author.Tests.{lt-ltb, ltb-true}
-use Rattle.laws.specs.Lemmas.Truth.{clash, false-if}
+use Rattle.laws.specs.Lemmas.Truth.{true-both, clash, false-if}
 use Rattle.laws.specs.Scan.{lowest, total}
 use Rattle.laws.specs.Lemmas.Scan.{nowhere→, →nowhere}
 use Rattle.laws.specs.declared.Lowest.{Lowest}
@@ -19,7 +19,6 @@ use Rattle.laws.specs.declared.Lowest.the-variants.{At, Nowhere}
 use Rattle.laws.specs.Splice.{part}
 use Rattle.laws.specs.Reader.{bytes}
 use Rattle.layout.specs.declared.Kind.{Kind}
-use Rattle.layout.specs.declared.Kind.the-variants.{S900, S1000}
 use Rattle.layout.specs.declared.Density.{Density}
 use Rattle.layout.specs.declared.Layout.{Layout}
 use Rattle.layout.specs.Layouts.{layoutOf, dataBlocks}
@@ -64,9 +63,10 @@ pub record Kept (k : Kind) (d : Density) (before : List ℕ) (held : Files) (t :
   pub others : (s : ℕ) (file : File) → filesIn (layoutOf k d) before s ≡ some file → (Removes (layoutOf k d) (t .call) file → ⊥) → filesIn (layoutOf k d) (t .after) s ≡ some file
   -- the free blocks, counted in the map, and every file's length rounded up to blocks make the data area
   pub free : freeCount (layoutOf k d) (mapAt (bytes (t .after))) + total (λ s. takes (filesIn (layoutOf k d) (t .after) s)) 0 (layoutOf k d .slots) ≡ dataBlocks (layoutOf k d)
-  -- a put with a legal type, a legal name by which no file would be removed, some content and an empty slot is refused for room ↔ it needs more blocks than are free
+  -- a put with a legal type, a legal name, some content and an empty slot, where no file would be removed by that name and type, is refused for room ↔ it needs more
+  -- blocks than are free
   pub room : (name : List ℕ) (type : ℕ) (content : List ℕ) → t .call ≡ put name type content → legalType (layoutOf k d) type ≡ true → legalName (layoutOf k d) name ≡ true
-      → ((s : ℕ) (file : File) → filesIn (layoutOf k d) before s ≡ some file → Removes (layoutOf k d) (remove name) file → ⊥) → (length content ≡ 0 → ⊥)
+      → ((s : ℕ) (file : File) → filesIn (layoutOf k d) before s ≡ some file → Removes (layoutOf k d) (remove name type) file → ⊥) → (length content ≡ 0 → ⊥)
       → (s : ℕ) → s < layoutOf k d .slots → filesIn (layoutOf k d) before s ≡ none
       → (t .answer ≡ refused 15 0) ↔ (freeCount (layoutOf k d) (mapAt (bytes before)) < blocksFor (length content))
   -- a download that begins with it joins to a beginning of the file, and to all of it ↔ its last page says the end, if none removes the file before that
@@ -164,15 +164,15 @@ module _ (k : Kind) (d : Density) (f n : ℕ) (img : List ℕ) (yes : checkOf im
   abbrev files : Files
   files = filesIn l img
 
-  no-slot : ((t : ℕ) (file : File) → files t ≡ some file → Removes l (remove name) file → ⊥) → slotOf l files name ≡ Nowhere
+  no-slot : ((t : ℕ) (file : File) → files t ≡ some file → Removes l (remove name type) file → ⊥) → slotOf l files name type ≡ Nowhere
   unfolding slotOf
-  no-slot new = →nowhere (λ t. named l name (files t)) 0 (l .slots) (λ t p q. go t (files t) refl)
+  no-slot new = →nowhere (λ t. named l name type (files t)) 0 (l .slots) (λ t p q. go t (files t) refl)
     where
-      go : (t : ℕ) (w : Option File) → files t ≡ w → named l name (files t) ≡ false
-      go t none e = ap (named l name) e
-      go t (some file) e = ap (named l name) e ∙ false-if (isNamed l name file) (λ x. new t file e (name, refl, x))
+      go : (t : ℕ) (w : Option File) → files t ≡ w → named l name type (files t) ≡ false
+      go t none e = ap (named l name type) e
+      go t (some file) e = ap (named l name type) e ∙ false-if (isNamed l name type file) (λ x. new t file e (name, type, refl, x))
 
-  some-slot : (s : ℕ) → s < l .slots → files s ≡ none → (r : ℕ) × (emptySlot l files ≡ At r)
+  pub some-slot : (s : ℕ) → s < l .slots → files s ≡ none → (r : ℕ) × (emptySlot l files ≡ At r)
   unfolding emptySlot
   some-slot s h e = go (lowest (λ t. isEmpty (files t)) 0 (l .slots)) refl
     where
@@ -181,25 +181,25 @@ module _ (k : Kind) (d : Density) (f n : ℕ) (img : List ℕ) (yes : checkOf im
       go Nowhere p = absurd (clash (ap isEmpty e) (nowhere→ (λ t. isEmpty (files t)) 0 (l .slots) p s (omega arith) (omega arith)))
 
   -- such a put is judged by its room and its length
-  judged : legalType l type ≡ true → legalName l name ≡ true → slotOf l files name ≡ Nowhere → (length content ≡ 0 → ⊥) → (s : ℕ) → emptySlot l files ≡ At s
+  pub judged-room : legalType l type ≡ true → legalName l name ≡ true → slotOf l files name type ≡ Nowhere → (length content ≡ 0 → ⊥) → (s : ℕ) → emptySlot l files ≡ At s
       → judgePut l files name type content ≡ roomFor n (length content) s
-  judged type-legal name-legal new some-content s slot =
-      order-room l files name type content name-legal type-legal some-content new slot
+  judged-room type-legal name-legal new some-content s slot =
+      order-room l files name type content (true-both (legalName l name) (legalType l type) name-legal type-legal) some-content new slot
       ∙ ap (λ (b : ℕ). roomFor b (length content) s) (free-is l (layout-right k d) img (accepted-rules k d f n img yes) ∙ sym (accepted-counts k d f n img yes .1))
 
-  put-answer : (j : Judged) → judgePut l files name type content ≡ j → callOf img (put name type content) .answer ≡ putting img (λ s. img) j .answer
+  pub put-answer : (j : Judged) → judgePut l files name type content ≡ j → callOf img (put name type content) .answer ≡ putting img (λ s. img) j .answer
   unfolding stepImage stepFiles
   put-answer (Refuse r) e = ap (λ (x : Outcome (List ℕ)). x .answer) (call-is k d img (put name type content) (accepted-rules k d f n img yes)) ∙ rw e refl
   put-answer (Grant s) e = ap (λ (x : Outcome (List ℕ)). x .answer) (call-is k d img (put name type content) (accepted-rules k d f n img yes)) ∙ rw e refl
 
   -- such a put is refused for room ↔ its blocks outnumber the free ones
-  room : legalType l type ≡ true → legalName l name ≡ true → ((t : ℕ) (file : File) → files t ≡ some file → Removes l (remove name) file → ⊥) → (length content ≡ 0 → ⊥)
+  room : legalType l type ≡ true → legalName l name ≡ true → ((t : ℕ) (file : File) → files t ≡ some file → Removes l (remove name type) file → ⊥) → (length content ≡ 0 → ⊥)
       → (s : ℕ) → s < l .slots → files s ≡ none → (callOf img (put name type content) .answer ≡ refused 15 0) ↔ (n < blocksFor (length content))
   room type-legal name-legal new some-content s inside empty =
       let slot = some-slot s inside empty in
       let t = ltb n (blocksFor (length content)) in
       let u = ltb 16777215 (length content) in
-      let a = put-answer (roomFor n (length content) (slot .0)) (judged type-legal name-legal (no-slot new) some-content (slot .0) (slot .1)) in
+      let a = put-answer (roomFor n (length content) (slot .0)) (judged-room type-legal name-legal (no-slot new) some-content (slot .0) (slot .1)) in
       let w = only-room img t u (slot .0) in
       (λ e. ltb-true n (blocksFor (length content)) (w .0 (sym a ∙ e)), λ h. a ∙ w .1 (lt-ltb n (blocksFor (length content)) h))
 

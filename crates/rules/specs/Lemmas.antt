@@ -1,3 +1,4 @@
 -- Lemmas that only proofs use.
 pub mod Steps
 pub mod Alike
+pub mod States

@@ -10,5 +10,6 @@ pub mod Unread
 pub mod Mark
 pub mod Spelling
 pub mod Second
+pub mod Types
 pub mod Small
 pub mod Lemmas

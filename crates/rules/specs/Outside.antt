@@ -41,10 +41,10 @@ MendedBy (Disk k d) img i = SalvageTouches (layoutOf k d) img i
 abbrev pub Mends : List ℕ → Call → ℕ → Type 0
 Mends img check i = ⊥
 Mends img (list s) i = ⊥
-Mends img (find name) i = ⊥
+Mends img (find name type) i = ⊥
 Mends img (page s offset out) i = ⊥
 Mends img (put name type content) i = ⊥
-Mends img (remove name) i = ⊥
+Mends img (remove name type) i = ⊥
 Mends img (salvage report) i = MendedBy (knownOf img) img i
 
 -- The bytes that a call touches, by the check's answer.
@@ -68,20 +68,20 @@ run-leaves P img report same mended = go (knownOf img) refl
 unaccepted-outside : (r : Refusal) (img : List ℕ) (c : Call) (i : ℕ) → (Mends img c i → ⊥) → bytes (unaccepted r img c .state) i ≡ bytes img i
 unaccepted-outside r img check i out = refl
 unaccepted-outside r img (list s) i out = refl
-unaccepted-outside r img (find name) i out = refl
+unaccepted-outside r img (find name type) i out = refl
 unaccepted-outside r img (page s offset o) i out = refl
 unaccepted-outside r img (put name type content) i out = refl
-unaccepted-outside r img (remove name) i out = refl
+unaccepted-outside r img (remove name type) i out = refl
 unaccepted-outside r img (salvage report) i out =
     run-leaves (λ x. bytes x i ≡ bytes img i) img report refl (λ k d e. salvage-outside (layoutOf k d) img i (rw e at out))
 
 unaccepted-length : (r : Refusal) (img : List ℕ) (c : Call) → length (unaccepted r img c .state) ≡ length img
 unaccepted-length r img check = refl
 unaccepted-length r img (list s) = refl
-unaccepted-length r img (find name) = refl
+unaccepted-length r img (find name type) = refl
 unaccepted-length r img (page s offset o) = refl
 unaccepted-length r img (put name type content) = refl
-unaccepted-length r img (remove name) = refl
+unaccepted-length r img (remove name type) = refl
 unaccepted-length r img (salvage report) =
     run-leaves (λ x. length x ≡ length img) img report refl (λ k d e. salvage-length (layoutOf k d) (layout-right k d) img (known-size k d img e))
 

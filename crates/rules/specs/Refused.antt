@@ -73,11 +73,11 @@ step-refused : (shape : Shape) (img : List ℕ) (c : Call) (r : Refusal) → ste
 unfolding stepImage
 step-refused shape img check r e = no-refusal e
 step-refused shape img (list s) r e = list-refused (filesIn (shape .layout) img) img r (fileAt (shape .layout) (filesIn (shape .layout) img) s) e
-step-refused shape img (find name) r e = find-refused (filesIn (shape .layout) img) img r (judgeName (shape .layout) (filesIn (shape .layout) img) name) e
+step-refused shape img (find name type) r e = find-refused (filesIn (shape .layout) img) img r (judgeName (shape .layout) (filesIn (shape .layout) img) name type) e
 step-refused shape img (page s offset out) r e = page-refused (filesIn (shape .layout) img) img r (fileAt (shape .layout) (filesIn (shape .layout) img) s) offset out e
 step-refused shape img (put name type content) r e =
     put-refused (filesIn (shape .layout) img) img r _ _ (judgePut (shape .layout) (filesIn (shape .layout) img) name type content) e
-step-refused shape img (remove name) r e = remove-refused (filesIn (shape .layout) img) img r _ _ (judgeName (shape .layout) (filesIn (shape .layout) img) name) e
+step-refused shape img (remove name type) r e = remove-refused (filesIn (shape .layout) img) img r _ _ (judgeName (shape .layout) (filesIn (shape .layout) img) name type) e
 step-refused shape img (salvage report) r e = salvage-refused (filesIn (shape .layout) img) img r (shape .layout) report e
 
 -- the salvage run, by what is known of the image
@@ -92,10 +92,10 @@ run-refused img report r e = go (salvage-refuses img report r .0 e)
 unaccepted-refused : (q : Refusal) (img : List ℕ) (c : Call) (r : Refusal) → unaccepted q img c .answer .refusal ≡ some r → unaccepted q img c ≡ came (refusedBy r) (lent c) img
 unaccepted-refused q img check r e = same-refusal [] img q r e
 unaccepted-refused q img (list s) r e = same-refusal [] img q r e
-unaccepted-refused q img (find name) r e = same-refusal [] img q r e
+unaccepted-refused q img (find name type) r e = same-refusal [] img q r e
 unaccepted-refused q img (page s offset out) r e = same-refusal out img q r e
 unaccepted-refused q img (put name type content) r e = same-refusal [] img q r e
-unaccepted-refused q img (remove name) r e = same-refusal [] img q r e
+unaccepted-refused q img (remove name type) r e = same-refusal [] img q r e
 unaccepted-refused q img (salvage report) r e = run-refused img report r e
 
 -- Whatever the image, a call that answers a refusal answers nothing else, and leaves output and image as they were lent.

@@ -18,14 +18,14 @@ use Rattle.layout.specs.declared.Kind.the-variants.{S3000}
 use Rattle.layout.specs.declared.Density.{Density}
 use Rattle.layout.specs.declared.Density.the-variants.{Low, High}
 use Rattle.layout.specs.declared.Layout.{Layout}
-use Rattle.layout.specs.Layouts.{layoutOf, lengthOf, slotOffset}
+use Rattle.layout.specs.Layouts.{layoutOf, lengthOf}
 use Rattle.layout.specs.Right.{layout-right}
 use Rattle.names.specs.Names.{legalArea, legalType, capitals}
 use Rattle.map.specs.Map.{mapAt}
 use Rattle.view.specs.Disk.{Entry, File, formed}
 use Rattle.view.specs.Lemmas.Formed.{formed-parts, parts-formed, type-range}
 use Rattle.view.specs.Lemmas.Kept.{owned-data}
-use Rattle.image.specs.Image.{entryAt, viewOf, filesIn, PassedOver, OfKind, DiskRules, newEntry}
+use Rattle.image.specs.Image.{viewOf, filesIn, PassedOver, OfKind, DiskRules, newEntry}
 use Rattle.image.specs.Lemmas.Effect.{remove-entry}
 use Rattle.record.specs.declared.Judged.{Judged}
 use Rattle.record.specs.declared.Judged.the-variants.{Refuse, Grant}
@@ -67,7 +67,7 @@ passed-over-low img n p = refused-exactly img (refusalAt 2 0) .1 (no-kind Low n 
 pub formed-exactly : (l : Layout) (e : Entry) → (formed l e ≡ true) ↔ ((legalArea l (e .area) ≡ true) × ((l .least ≤ e .type) × (e .type ≤ l .most)) × (1 ≤ e .size) × (e .identity ≡ l .identity))
 unfolding legalType
 formed-exactly l e = (
-  λ h. let p = formed-parts l e h in (p .area, type-range l e (p .type), p .size, p .own),
+  λ h. let p = formed-parts l e h in (p .area, type-range l (e .type) (p .type), p .size, p .own),
   λ p. parts-formed l e (record {
     area = p .0;
     type = true-both (leb (l .least) (e .type)) (leb (e .type) (l .most)) (le-leb (l .least) (e .type) (p .1 .0)) (le-leb (e .type) (l .most) (p .1 .1));
@@ -103,7 +103,7 @@ module _ (k : Kind) (d : Density) (f n : ℕ) (img : List ℕ) (accept : checkOf
 
   -- A removed file's slot is zeros but for the layout's identity.
   pub remove-leaves : (slot : ℕ) (file : File) → filesIn l img slot ≡ some file → (name : List ℕ) → capitals l name ≡ file .name
-      → viewOf l (bytes (callOf img (remove name) .state)) .entry slot ≡ record { area = replicate 16 0; type = 0; size = 0; start = 0; identity = l .identity }
+      → viewOf l (bytes (callOf img (remove name (file .type)) .state)) .entry slot ≡ record { area = replicate 16 0; type = 0; size = 0; start = 0; identity = l .identity }
   remove-leaves slot file there name spells =
       let u = file-used l img slot file there in
       let e = viewOf l (bytes img) .entry slot in

@@ -11,7 +11,6 @@ use lib.Dec.{ltb, eqb}
 use lib.ListN.{length}
 use borrow.Author.Tests.{ltb-true}
 use Rattle.laws.specs.Reader.{bytes}
-use Rattle.laws.specs.Truth.{both}
 use Rattle.laws.specs.Scan.{lowest}
 use Rattle.laws.specs.Lemmas.Scan.{at→, count-split, total-has}
 use Rattle.laws.specs.declared.Lowest.{Lowest}
@@ -22,7 +21,6 @@ use Rattle.layout.specs.declared.Layout.{Layout}
 use Rattle.layout.specs.Layouts.{layoutOf}
 use Rattle.layout.specs.Right.{LayoutRight, layout-right}
 use Rattle.blocks.specs.Blocks.{blocksFor, linksFor}
-use Rattle.names.specs.Names.{legalName, legalType}
 use Rattle.map.specs.Map.{Astray, Miscounted}
 use Rattle.laws.specs.declared.Refusal.{Refusal}
 use Rattle.laws.specs.Refusals.{refusalAt}
@@ -31,7 +29,7 @@ use Rattle.view.specs.Broken.{Rule, system, legal, single, linked, apart, owner
 use Rattle.image.specs.Image.{viewOf, filesIn, DiskRules}
 use Rattle.salvage.specs.Salvage.{salvageImage, mapChanges}
 use Rattle.salvage.specs.Theorems.{changes-few}
-use Rattle.record.specs.Record.{shapeOf, Files, Call, check, list, find, page, put, remove, salvage, Answer, refusedBy, refused, gives, refuseIf, refuseAt, orRefuse, replaced, slotOf, emptySlot, isEmpty, named, keptFile, fileCount, free, judgeName, judgePut, fileAt, listing, finding, putting, removing, paging, salvaging, stepFiles}
+use Rattle.record.specs.Record.{shapeOf, Files, Call, check, list, find, page, put, remove, salvage, Answer, refusedBy, refused, gives, refuseIf, refuseAt, orRefuse, replaced, isLegal, slotOf, emptySlot, isEmpty, named, keptFile, fileCount, free, judgeName, judgePut, fileAt, listing, finding, putting, removing, paging, salvaging, stepFiles}
 use Rattle.record.specs.declared.Judged.{Judged}
 use Rattle.record.specs.declared.Judged.the-variants.{Refuse, Grant}
 use Rattle.record.specs.Lemmas.Update.{area-split}
@@ -111,25 +109,25 @@ else-small : (n : ℕ) (w : Lowest) (next : ℕ → Judged) → Listed n → ((p
 else-small n (At p) next h r = r p refl
 else-small n Nowhere next h r = record { some = h .0; most = h .1; place = omega arith }
 
-module _ (l : Layout) (right : LayoutRight l) (files : Files) (name : List ℕ) where
-  slot-small : (p : ℕ) → slotOf l files name ≡ At p → Small p
+module _ (l : Layout) (right : LayoutRight l) (files : Files) (name : List ℕ) (type : ℕ) where
+  slot-small : (p : ℕ) → slotOf l files name type ≡ At p → Small p
   unfolding slotOf
-  slot-small p = lowest-small (λ s. named l name (files s)) 0 (l .slots) p (let h = slots-small l right in omega arith)
+  slot-small p = lowest-small (λ s. named l name type (files s)) 0 (l .slots) p (let h = slots-small l right in omega arith)
 
   empty-small : (p : ℕ) → emptySlot l files ≡ At p → Small p
   unfolding emptySlot
   empty-small p = lowest-small (λ s. isEmpty (files s)) 0 (l .slots) p (let h = slots-small l right in omega arith)
 
-  name-small : SmallJudged (judgeName l files name)
+  name-small : SmallJudged (judgeName l files name type)
   unfolding judgeName
-  name-small = if-small (not (legalName l name)) 11 _ (omega arith) (else-small 10 (slotOf l files name) (λ s. Grant s) (omega arith) slot-small)
+  name-small = if-small (not (isLegal l name type)) 11 _ (omega arith) (else-small 10 (slotOf l files name type) (λ s. Grant s) (omega arith) slot-small)
 
-  put-small : (type : ℕ) (content : List ℕ) → SmallJudged (judgePut l files name type content)
+  put-small : (content : List ℕ) → SmallJudged (judgePut l files name type content)
   unfolding judgePut
-  put-small type content =
-      if-small (not (both (legalName l name) (legalType l type))) 11 _ (omega arith)
+  put-small content =
+      if-small (not (isLegal l name type)) 11 _ (omega arith)
       (if-small (eqb (length content) 0) 13 _ (omega arith)
-      (at-small 12 (slotOf l files name) _ (omega arith) slot-small
+      (at-small 12 (slotOf l files name type) _ (omega arith) slot-small
       (else-small 14 (emptySlot l files) _ (omega arith) (λ p e.
       if-small (ltb (free l files) (blocksFor (length content))) 15 _ (omega arith)
       (if-small (ltb 16777215 (length content)) 16 (Grant p) (omega arith)
@@ -212,8 +210,8 @@ step-small k d img rules check =
     record { refusal = tt; value = omega arith; free = omega arith }
 step-small k d img rules (list s) =
     let l = layoutOf k d in listing-small (filesIn l img) (fileAt l (filesIn l img) s) (held-small l (layout-right k d) img rules s)
-step-small k d img rules (find name) =
-    let l = layoutOf k d in finding-small (filesIn l img) (judgeName l (filesIn l img) name) (name-small l (layout-right k d) (filesIn l img) name)
+step-small k d img rules (find name type) =
+    let l = layoutOf k d in finding-small (filesIn l img) (judgeName l (filesIn l img) name type) (name-small l (layout-right k d) (filesIn l img) name type)
 step-small k d img rules (page s offset out) =
     let l = layoutOf k d in paging-small (filesIn l img) (fileAt l (filesIn l img) s) offset out (held-small l (layout-right k d) img rules s)
 step-small k d img rules (put name type content) =
@@ -221,10 +219,10 @@ step-small k d img rules (put name type content) =
     let files = filesIn l img in
     putting-small files (λ s. replaced files s (some (keptFile l name type content))) (judgePut l files name type content)
     (put-small l (layout-right k d) files name type content)
-step-small k d img rules (remove name) =
+step-small k d img rules (remove name type) =
     let l = layoutOf k d in
     let files = filesIn l img in
-    removing-small files (λ s. replaced files s none) (judgeName l files name) (name-small l (layout-right k d) files name)
+    removing-small files (λ s. replaced files s none) (judgeName l files name type) (name-small l (layout-right k d) files name type)
 step-small k d img rules (salvage report) = let l = layoutOf k d in salvaging-small (filesIn l img) l report
 
 -- the salvage run: no more map values than blocks
@@ -245,10 +243,10 @@ run-small img report = go (knownOf img) refl
 unaccepted-small : (r : Refusal) (img : List ℕ) (c : Call) → Numbered r → AllSmall (unaccepted r img c .answer)
 unaccepted-small r img check h = refused-small r h
 unaccepted-small r img (list s) h = refused-small r h
-unaccepted-small r img (find name) h = refused-small r h
+unaccepted-small r img (find name type) h = refused-small r h
 unaccepted-small r img (page s offset out) h = refused-small r h
 unaccepted-small r img (put name type content) h = refused-small r h
-unaccepted-small r img (remove name) h = refused-small r h
+unaccepted-small r img (remove name type) h = refused-small r h
 unaccepted-small r img (salvage report) h = run-small img report
 
 -- No call answers a number that takes more than three bytes, whatever the image, nor a refusal that the table doesn't have.

@@ -236,14 +236,14 @@ module _ (k : Kind) (d : Density) (second : layoutOf k d .second ≡ true) (x y 
     unfolding imageAfter
     image-same check = same
     image-same (list s) = same
-    image-same (find name) = same
+    image-same (find name type) = same
     image-same (page s offset out) = same
     image-same (put name type content) = rw files-same (go (judgePut l (filesIn l x) name type content))
       where
         go : (j : Judged) → SameButFirst (after x (λ s. putImage l x s name type content) j) (after y (λ s. putImage l y s name type content) j)
         go (Refuse r) = same
         go (Grant s) = put-same s name type content
-    image-same (remove name) = rw files-same (go (judgeName l (filesIn l x) name))
+    image-same (remove name type) = rw files-same (go (judgeName l (filesIn l x) name type))
       where
         go : (j : Judged) → SameButFirst (after x (removeImage l x) j) (after y (removeImage l y) j)
         go (Refuse r) = same
@@ -261,10 +261,10 @@ module _ (k : Kind) (d : Density) (second : layoutOf k d .second ≡ true) (x y 
   refused-unseen : (r : Refusal) (c : Call) → Unseen (unaccepted r x c) (unaccepted r y c)
   refused-unseen r check = record { answer = refl; output = refl; state = same }
   refused-unseen r (list s) = record { answer = refl; output = refl; state = same }
-  refused-unseen r (find name) = record { answer = refl; output = refl; state = same }
+  refused-unseen r (find name type) = record { answer = refl; output = refl; state = same }
   refused-unseen r (page s offset out) = record { answer = refl; output = refl; state = same }
   refused-unseen r (put name type content) = record { answer = refl; output = refl; state = same }
-  refused-unseen r (remove name) = record { answer = refl; output = refl; state = same }
+  refused-unseen r (remove name type) = record { answer = refl; output = refl; state = same }
   refused-unseen r (salvage report) = salvage-unseen report
 
   -- No call reads the first directory, but byte 16 for the kind: images that differ in nothing else get the same answers and outputs, and differ in nothing
@@ -295,10 +295,10 @@ module _ (k : Kind) (d : Density) (second : layoutOf k d .second ≡ true) (img 
   refused-kept : (r : Refusal) (c : Call) → bytes (unaccepted r img c .state) i ≡ bytes img i
   refused-kept r check = refl
   refused-kept r (list s) = refl
-  refused-kept r (find name) = refl
+  refused-kept r (find name type) = refl
   refused-kept r (page s offset out) = refl
   refused-kept r (put name type content) = refl
-  refused-kept r (remove name) = refl
+  refused-kept r (remove name type) = refl
   refused-kept r (salvage report) = mended-kept report
 
   pub first-kept : (c : Call) → bytes (callOf img c .state) i ≡ bytes img i

@@ -1,20 +1,26 @@
--- What the report says of a slot, and why: `report-exactly`.
+-- What the report says of a slot, and why: `report-exactly`; and 5 by itself: `report-five`.
 -- The rules of slots are asked in turn, and a test holds exactly where its rule is broken. Assumes nothing.
 use mathlib.Core.Path.{_≡_, refl, sym, ap, _∙_}
-use mathlib.Core.Bool.{Bool, true, false}
+use mathlib.Core.Bool.{Bool, true, false, not}
 use mathlib.Core.Logic.{_↔_}
 use Prim.Native.Nat.{ℕ, suc, _+_, _≤_, _<_}
 use native.Mathlib.Decide.{ℕ-discrete}
 use native.Mathlib.Omega.{arith}
 use Rattle.laws.specs.Truth.{pick}
-use Rattle.laws.specs.Lemmas.Truth.{clash, false-if}
+use borrow.Author.Tests.{not-false}
+use Rattle.laws.specs.Scan.{any}
+use Rattle.laws.specs.Lemmas.Scan.{none→, some→}
+use Rattle.laws.specs.Lemmas.Truth.{both-true, both-false, true-both, clash, true-if, false-if}
 use Rattle.layout.specs.declared.Layout.{Layout}
 use Rattle.layout.specs.Right.{LayoutRight}
-use Rattle.view.specs.Disk.{View, used}
+use Rattle.map.specs.Map.{Walk, Whole, Bad, Cut, faultOf}
+use Rattle.view.specs.Disk.{View, used, formed, Namesakes}
+use Rattle.view.specs.Rules.{malformed, hasNameOf, repeated, walkOf, broken, sharing}
+use Rattle.view.specs.Lemmas.Namesakes.{namesakes-named, named-namesakes, namesakes-used, namesakes-kept}
 use Rattle.view.specs.Broken.{Rule, system, legal, single, linked, apart, owner, turn, Breaks}
 use Rattle.view.specs.Exactly.{test, from, size, numberAt, hits, misses, same-turn}
 use Rattle.salvage.specs.Salvage.{verdict, diskAfter, reportOf}
-use Rattle.salvage.specs.Lemmas.Judged.{byTests, verdict-by, clean-kept, empty-verdict}
+use Rattle.salvage.specs.Lemmas.Judged.{byTests, verdict-by, clean-kept, empty-verdict, entry-ahead, kept-entry, gone-entry}
 
 -- The rules of slots: 4, 5, 6 and 7, 8.
 abbrev pub OfSlots : Rule → Type 0
@@ -113,3 +119,68 @@ module _ (l : Layout) (right : LayoutRight l) (v : View) (s : ℕ) (slot : s < l
 -- The report's byte of a slot is n exactly when n is said of it, on the disk without the lower slots that were dropped.
 pub report-exactly : (l : Layout) → LayoutRight l → (v : View) (s : ℕ) → s < l .slots → (n : ℕ) → (reportOf l v s ≡ n) ↔ Said l (diskAfter l v s) s n
 report-exactly l right v s = verdict-exactly l right (diskAfter l v s) s
+
+-- ---- 5
+
+module _ (l : Layout) (v : View) (s : ℕ) where
+  abbrev here : View
+  here = diskAfter l v s
+
+  as-given : here .entry s ≡ v .entry s
+  as-given = entry-ahead l v s s (omega arith)
+
+  -- a lower slot that is kept is as given
+  lower-given : (t : ℕ) → t < s → reportOf l v t ≡ 1 → here .entry t ≡ v .entry t
+  lower-given t h e = kept-entry l v t (rw e refl) s h
+
+  no-fault : (w : Walk) → faultOf w ≡ 5 → ⊥
+  no-fault Whole e = omega arith
+  no-fault Bad e = omega arith
+  no-fault Cut e = omega arith
+
+  five-tests : (u m r b x : Bool) → byTests l here s u m r b x ≡ 5 → (u ≡ true) × (m ≡ false) × (r ≡ true)
+  five-tests false m r b x e = absurd (omega arith)
+  five-tests true true r b x e = absurd (omega arith)
+  five-tests true false true b x e = (refl, refl, refl)
+  five-tests true false false true x e = absurd (no-fault (walkOf l here s) e)
+  five-tests true false false false true e = absurd (omega arith)
+  five-tests true false false false false e = absurd (omega arith)
+
+  -- The name and the type of slot s stand in a kept lower slot.
+  abbrev pub KeptBelow : Type 0
+  KeptBelow = (t : ℕ) × (t < s) × (reportOf l v t ≡ 1) × Namesakes (v .entry s) (v .entry t)
+
+  below : used (here .entry s) ≡ true → repeated l here s ≡ true → KeptBelow
+  unfolding repeated hasNameOf
+  below u r =
+      let o = some→ (hasNameOf l here s) 0 s (both-true (used (here .entry s)) (any (hasNameOf l here s) 0 s) r .1) in
+      go (o .0) (omega (arith, o .2)) (named-namesakes (here .entry s) (here .entry (o .0)) (o .3)) (ℕ-discrete (reportOf l v (o .0)) 1)
+    where
+      go : (t : ℕ) → t < s → Namesakes (here .entry s) (here .entry t) → Dec (reportOf l v t ≡ 1) → KeptBelow
+      go t h n (yes e) = (t, h, e, namesakes-kept as-given (lower-given t h e) n)
+      go t h n (no e) = absurd (clash (namesakes-used (here .entry s) (here .entry t) n u) (gone-entry l v t e s h))
+
+  above : used (here .entry s) ≡ true → KeptBelow → repeated l here s ≡ true
+  unfolding repeated hasNameOf
+  above u (t, h, e, n) =
+      let named = namesakes-named (here .entry s) (here .entry t) (namesakes-kept (sym as-given) (sym (lower-given t h e)) n) in
+      true-both (used (here .entry s)) (any (hasNameOf l here s) 0 s) u (true-if (any (hasNameOf l here s) 0 s) (λ z. clash named (none→ (hasNameOf l here s) 0 s z t (omega arith) (omega arith))))
+
+  -- 5 is said of a slot ↔ it is used and well formed, and a kept lower slot has its name and its type (document 02, requests four and six).
+  pub report-five : (reportOf l v s ≡ 5) ↔ ((used (v .entry s) ≡ true) × (formed l (v .entry s) ≡ true) × KeptBelow)
+  unfolding malformed
+  report-five = (to, from)
+    where
+      to : reportOf l v s ≡ 5 → (used (v .entry s) ≡ true) × (formed l (v .entry s) ≡ true) × KeptBelow
+      to e =
+          let p = five-tests (used (here .entry s)) (malformed l here s) (repeated l here s) (broken l here s) (sharing l here s) (sym (verdict-by l here s refl refl refl refl refl) ∙ e) in (
+            rw as-given at (p .0),
+            rw as-given at (not-false (formed l (here .entry s)) (both-false (used (here .entry s)) (not (formed l (here .entry s))) (p .1) (p .0))),
+            below (p .0) (p .2),
+          )
+
+      from : (used (v .entry s) ≡ true) × (formed l (v .entry s) ≡ true) × KeptBelow → reportOf l v s ≡ 5
+      from (u, f, b) =
+          let in-use = ap used as-given ∙ u in
+          let whole : malformed l here s ≡ false = rw (as-given, u, f) refl in
+          verdict-by l here s in-use whole (above in-use b) refl refl

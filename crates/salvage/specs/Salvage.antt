@@ -4,7 +4,7 @@ use mathlib.Core.Bool.{Bool, not}
 use mathlib.Core.List.{List, [], _∷_, _++_}
 use Prim.Native.Nat.{ℕ, zero, suc, _-_}
 use lib.Dec.{ltb, eqb}
-use lib.ListN.{drop, replicate}
+use lib.ListN.{drop}
 use Rattle.laws.specs.Truth.{pick, both}
 use Rattle.laws.specs.Scan.{count, those}
 use Rattle.laws.specs.Reader.{bytes, tab}
@@ -21,7 +21,7 @@ use Rattle.image.specs.Image.{erased, entryAt, viewOf, eraseEntry}
 abbrev pub withEntries : View → (ℕ → Entry) → View
 withEntries v entry = record { map = v .map; entry = entry; block = v .block }
 
--- What the run says of slot s of a disk: 0 if it is empty, else the number of the first rule that it breaks, else 1. Names and chains
+-- What the run says of slot s of a disk: 0 if it is empty, else the number of the first rule that it breaks, else 1. Names with types, and chains,
 -- are compared with those of the used slots below it.
 unfoldable pub verdict : Layout → View → ℕ → ℕ
 unfolding used malformed repeated broken walkOf sharing

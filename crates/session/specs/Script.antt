@@ -21,7 +21,7 @@ use Rattle.session.specs.declared.Reply.{Reply}
 abbrev pub fits : ℕ → ℕ → ℕ → Bool
 fits size at n = both (leb at size) (leb n (size - at))
 
--- An entry has 20 bytes: the call's number, the type to put, two that aren't read, and four numbers of four bytes.
+-- An entry has 20 bytes: the call's number, the type of a call that names a file, two that aren't read, and four numbers of four bytes.
 -- 4 is put: the last two numbers are the content's offset and length in the pool.
 unfoldable pub putEntry : List ℕ → List ℕ → List ℕ → Option Call
 unfolding number part
@@ -34,7 +34,8 @@ putEntry name e pool =
 abbrev pub namedEntry : List ℕ → List ℕ → List ℕ → Option Call
 namedEntry name e pool =
     let op = getD e 0 0 in
-    pick (eqb op 2) (some (find name)) (pick (eqb op 3) (some (remove name)) (pick (eqb op 4) (putEntry name e pool) none))
+    let type = getD e 1 0 in
+    pick (eqb op 2) (some (find name type)) (pick (eqb op 3) (some (remove name type)) (pick (eqb op 4) (putEntry name e pool) none))
 
 -- 0 is list: the first number is the slot. 1 is page: slot and offset; it is lent the bytes after the reply. The others: the name's
 -- offset and length in the pool. Any other entry is no call.

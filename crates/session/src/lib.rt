@@ -144,21 +144,21 @@ fn make_page(image: &[u8], slot: usize, offset: usize, shown: &mut [u8])
     write_reply(shown, paged_reply(paged));
 }
 
-fn make_find(image: &[u8], name: &[u8], shown: &mut [u8])
+fn make_find(image: &[u8], name: &[u8], letter: u8, shown: &mut [u8])
     requires { ⌜ 1044 ≤ length (now shown) ⌝ }
-    ensures reply { λ _. ⌜ now (shown .exit) ≡ shownBy (now (shown .entry)) (callOf (now (image .entry)) (findCall (now (name .entry)))) ⌝ }
-    ensures image { λ _. ⌜ now (image .entry) ≡ callOf (now (image .entry)) (findCall (now (name .entry))) .state ⌝ }
+    ensures reply { λ _. ⌜ now (shown .exit) ≡ shownBy (now (shown .entry)) (callOf (now (image .entry)) (findCall (now (name .entry)) letter)) ⌝ }
+    ensures image { λ _. ⌜ now (image .entry) ≡ callOf (now (image .entry)) (findCall (now (name .entry)) letter) .state ⌝ }
 {
-    let found = calls::find(image, name);
+    let found = calls::find(image, name, letter);
     write_reply(shown, found_reply(found));
 }
 
-fn make_remove(image: &mut [u8], name: &[u8], shown: &mut [u8])
+fn make_remove(image: &mut [u8], name: &[u8], letter: u8, shown: &mut [u8])
     requires { ⌜ 1044 ≤ length (now shown) ⌝ }
-    ensures reply { λ _. ⌜ now (shown .exit) ≡ shownBy (now (shown .entry)) (callOf (now (image .entry)) (removeCall (now (name .entry)))) ⌝ }
-    ensures image { λ _. ⌜ now (image .exit) ≡ callOf (now (image .entry)) (removeCall (now (name .entry))) .state ⌝ }
+    ensures reply { λ _. ⌜ now (shown .exit) ≡ shownBy (now (shown .entry)) (callOf (now (image .entry)) (removeCall (now (name .entry)) letter)) ⌝ }
+    ensures image { λ _. ⌜ now (image .exit) ≡ callOf (now (image .entry)) (removeCall (now (name .entry)) letter) .state ⌝ }
 {
-    let removed = calls::remove(image, name);
+    let removed = calls::remove(image, name, letter);
     write_reply(shown, removed_reply(removed));
 }
 
@@ -203,11 +203,11 @@ fn run_named(image: &mut [u8], name: &[u8], entry: &[u8], pool: &[u8], shown: &m
 {
     let op = entry[0];
     if op == 2 {
-        make_find(image, name, shown);
+        make_find(image, name, entry[1], shown);
         return true;
     }
     if op == 3 {
-        make_remove(image, name, shown);
+        make_remove(image, name, entry[1], shown);
         return true;
     }
     if op != 4 {

@@ -131,11 +131,11 @@ module _ (k : Kind) (d : Density) (f n : ℕ) (img : List ℕ) (accepts : checkO
       let files = filesIn l img in
       let z : r ≡ listedResult (callOf img (list s) .answer) = cc in
       by (list s) (ap (listedIn l) (z ∙ ap listedResult (answer-is (list s))) ∙ listed-back files l (fileAt l files s) (name-long s)) (sym (list-output files (fileAt l files s))) refl
-  told-made (found name r) e =
+  told-made (found name type r) e =
       let files = filesIn l img in
-      let j = judgeName l files name in
-      let z : r ≡ foundResult (callOf img (find name) .answer) = cc in
-      by (find name) (ap foundIn (z ∙ ap foundResult (answer-is (find name))) ∙ found-back files j (numbered (find name))) (sym (find-output files j)) refl
+      let j = judgeName l files name type in
+      let z : r ≡ foundResult (callOf img (find name type) .answer) = cc in
+      by (find name type) (ap foundIn (z ∙ ap foundResult (answer-is (find name type))) ∙ found-back files j (numbered (find name type))) (sym (find-output files j)) refl
   told-made (paged s offset lent r out) e =
       let files = filesIn l img in
       let c = page s offset lent in
@@ -149,10 +149,10 @@ module _ (k : Kind) (d : Density) (f n : ℕ) (img : List ℕ) (accepts : checkO
       let z : r ≡ foundResult (callOf img c .answer) = cc in
       let o : after ≡ callOf img c .state = cc in
       by c (ap foundIn (z ∙ ap foundResult (answer-is c)) ∙ placed-back files _ j (numbered c)) (sym (put-output files _ j)) (o ∙ state-is c)
-  told-made (removed name r after) e =
+  told-made (removed name type r after) e =
       let files = filesIn l img in
-      let j = judgeName l files name in
-      let c = remove name in
+      let j = judgeName l files name type in
+      let c = remove name type in
       let z : r ≡ doneResult (callOf img c .answer) = cc in
       let o : after ≡ callOf img c .state = cc in
       by c (ap doneIn (z ∙ ap doneResult (answer-is c)) ∙ removed-back files _ j (numbered c)) (sym (remove-output files _ j)) (o ∙ state-is c)
@@ -167,10 +167,10 @@ module _ (k : Kind) (d : Density) (f n : ℕ) (img : List ℕ) (accepts : checkO
 pub told-refusal : (img : List ℕ) (c : Call) (r : Refusal) → callOf img c .answer .refusal ≡ some r → toldOf img c ≡ refusedTurn img c r
 told-refusal img check r e = rw (unchanged img check r e) refl
 told-refusal img (list s) r e = rw (unchanged img (list s) r e, padded-nil 12) refl
-told-refusal img (find name) r e = rw (unchanged img (find name) r e) refl
+told-refusal img (find name type) r e = rw (unchanged img (find name type) r e) refl
 told-refusal img (page s offset out) r e = rw (unchanged img (page s offset out) r e) refl
 told-refusal img (put name type content) r e = rw (unchanged img (put name type content) r e) refl
-told-refusal img (remove name) r e = rw (unchanged img (remove name) r e) refl
+told-refusal img (remove name type) r e = rw (unchanged img (remove name type) r e) refl
 told-refusal img (salvage report) r e = rw (unchanged img (salvage report) r e) refl
 
 -- ---- sequences

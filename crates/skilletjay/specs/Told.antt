@@ -25,12 +25,14 @@ use Rattle.skilletjay.specs.Results.{checkedResult, listedResult, foundR
 pub data CTurn : Type 0 where
   checked : CChecked → CTurn
   listed : ℕ → CListed → CTurn
-  found : List ℕ → CFound → CTurn
+  -- name, type
+  found : List ℕ → ℕ → CFound → CTurn
   -- slot, offset, the output as it was lent; the output afterwards
   paged : ℕ → ℕ → List ℕ → CPaged → List ℕ → CTurn
   -- name, type, content; the image afterwards
   placed : List ℕ → ℕ → List ℕ → CFound → List ℕ → CTurn
-  removed : List ℕ → CDone → List ℕ → CTurn
+  -- name, type; the image afterwards
+  removed : List ℕ → ℕ → CDone → List ℕ → CTurn
   -- the report as it was lent; the report and the image afterwards
   salvaged : List ℕ → CCounted → List ℕ → List ℕ → CTurn
 
@@ -38,20 +40,20 @@ pub data CTurn : Type 0 where
 abbrev pub toldOf : List ℕ → Call → CTurn
 toldOf img check = checked (checkedResult (callOf img check .answer))
 toldOf img (list slot) = listed slot (listedResult (callOf img (list slot) .answer))
-toldOf img (find name) = found name (foundResult (callOf img (find name) .answer))
+toldOf img (find name type) = found name type (foundResult (callOf img (find name type) .answer))
 toldOf img (page slot offset lent) = paged slot offset lent (pagedResult (callOf img (page slot offset lent) .answer)) (callOf img (page slot offset lent) .output)
 toldOf img (put name type content) = placed name type content (foundResult (callOf img (put name type content) .answer)) (callOf img (put name type content) .state)
-toldOf img (remove name) = removed name (doneResult (callOf img (remove name) .answer)) (callOf img (remove name) .state)
+toldOf img (remove name type) = removed name type (doneResult (callOf img (remove name type) .answer)) (callOf img (remove name type) .state)
 toldOf img (salvage lent) = salvaged lent (changedResult (callOf img (salvage lent) .answer)) (callOf img (salvage lent) .output) (callOf img (salvage lent) .state)
 
 -- A refused call: the refusal's number and place, 0 in every other field, and all that was lent as it was.
 abbrev pub refusedTurn : List ℕ → Call → Refusal → CTurn
 refusedTurn img check r = checked (record { refusal = r .number; place = r .place; kind = 0; density = 0; files = 0; free = 0 })
 refusedTurn img (list slot) r = listed slot (record { refusal = r .number; place = r .place; name = replicate 12 0; letter = 0; length = 0 })
-refusedTurn img (find name) r = found name (record { refusal = r .number; place = r .place; slot = 0 })
+refusedTurn img (find name type) r = found name type (record { refusal = r .number; place = r .place; slot = 0 })
 refusedTurn img (page slot offset lent) r = paged slot offset lent (record { refusal = r .number; place = r .place; count = 0; end = false }) lent
 refusedTurn img (put name type content) r = placed name type content (record { refusal = r .number; place = r .place; slot = 0 }) img
-refusedTurn img (remove name) r = removed name (record { refusal = r .number; place = r .place }) img
+refusedTurn img (remove name type) r = removed name type (record { refusal = r .number; place = r .place }) img
 refusedTurn img (salvage lent) r = salvaged lent (record { refusal = r .number; place = r .place; count = 0 }) lent img
 
 -- ---- the answer that a result tells
@@ -92,10 +94,10 @@ changedIn r = record { refusal = refusalIn (r .refusal) (r .place); value = r .c
 abbrev pub turnIn : Layout → List ℕ → CTurn → Turn
 turnIn l img (checked r) = record { call = check; answer = checkedIn r; output = []; after = img }
 turnIn l img (listed slot r) = record { call = list slot; answer = listedIn l r; output = []; after = img }
-turnIn l img (found name r) = record { call = find name; answer = foundIn r; output = []; after = img }
+turnIn l img (found name type r) = record { call = find name type; answer = foundIn r; output = []; after = img }
 turnIn l img (paged slot offset lent r out) = record { call = page slot offset lent; answer = pagedIn r; output = out; after = img }
 turnIn l img (placed name type content r after) = record { call = put name type content; answer = foundIn r; output = []; after = after }
-turnIn l img (removed name r after) = record { call = remove name; answer = doneIn r; output = []; after = after }
+turnIn l img (removed name type r after) = record { call = remove name type; answer = doneIn r; output = []; after = after }
 turnIn l img (salvaged lent r report after) = record { call = salvage lent; answer = changedIn r; output = report; after = after }
 
 -- A sequence of such calls, each on the image that the one before it left.

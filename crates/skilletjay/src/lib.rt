@@ -230,12 +230,12 @@ pub extern "C" fn sj_list(image: &[u8], slot: usize) -> CListed
     listed_result(calls::list(image, slot))
 }
 
-// The slot of the file with a name: refusals 1 to 9, then 11, then 10. Image and name are lent and kept.
+// The slot of the file with a name and a type: refusals 1 to 9, then 11, then 10. Image and name are lent and kept.
 #[no_mangle]
-pub extern "C" fn sj_find(image: &[u8], name: &[u8]) -> CFound
-    ensures { λ r. ⌜ found (now (name .entry)) r ≡ toldOf (now (image .entry)) (find (now (name .entry))) ⌝ }
+pub extern "C" fn sj_find(image: &[u8], name: &[u8], letter: u8) -> CFound
+    ensures { λ r. ⌜ found (now (name .entry)) letter r ≡ toldOf (now (image .entry)) (find (now (name .entry)) letter) ⌝ }
 {
-    found_result(calls::find(image, name))
+    found_result(calls::find(image, name, letter))
 }
 
 // A file's bytes from an offset on, to the output's front: refusals 1 to 9, then 10, then 17. The image is lent and kept; the output's other
@@ -257,8 +257,8 @@ pub extern "C" fn sj_blocks(image: &[u8], slot: usize, out: &mut [u16]) -> CCoun
     counted_result(locate::file_blocks(image, slot, out))
 }
 
-// Puts a file: its slot is the lowest empty one, its blocks the lowest free ones. Refusals 1 to 9, then 11, 13, 12 at the slot that has the
-// name, 14, 15, 16. Name and content are lent and kept; so is the image on a refusal.
+// Puts a file: its slot is the lowest empty one, its blocks the lowest free ones. Refusals 1 to 9, then 11, 13, 12 at the slot that has
+// name and type, 14, 15, 16. Name and content are lent and kept; so is the image on a refusal.
 #[no_mangle]
 pub extern "C" fn sj_put(image: &mut [u8], name: &[u8], letter: u8, content: &[u8]) -> CFound
     ensures { λ r. ⌜ placed (now (name .entry)) letter (now (content .entry)) r (now (image .exit)) ≡ toldOf (now (image .entry)) (put (now (name .entry)) letter (now (content .entry))) ⌝ }
@@ -266,12 +266,12 @@ pub extern "C" fn sj_put(image: &mut [u8], name: &[u8], letter: u8, content: &[u
     found_result(calls::put(image, name, letter, content))
 }
 
-// Removes the file with a name: refusals 1 to 9, then 11, then 10. The name is lent and kept; so is the image on a refusal.
+// Removes the file with a name and a type: refusals 1 to 9, then 11, then 10. The name is lent and kept; so is the image on a refusal.
 #[no_mangle]
-pub extern "C" fn sj_remove(image: &mut [u8], name: &[u8]) -> CDone
-    ensures { λ r. ⌜ removed (now (name .entry)) r (now (image .exit)) ≡ toldOf (now (image .entry)) (remove (now (name .entry))) ⌝ }
+pub extern "C" fn sj_remove(image: &mut [u8], name: &[u8], letter: u8) -> CDone
+    ensures { λ r. ⌜ removed (now (name .entry)) letter r (now (image .exit)) ≡ toldOf (now (image .entry)) (remove (now (name .entry)) letter) ⌝ }
 {
-    done_result(calls::remove(image, name))
+    done_result(calls::remove(image, name, letter))
 }
 
 // Mends an image in place, says of each slot what became of it, and gives how many map values are others: refusals 1 and 2, then 21. The report's bytes

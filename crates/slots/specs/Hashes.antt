@@ -1,5 +1,5 @@
--- A table of the names' hashes: a slot's name is compared only with those of the lower slots that have its hash.
--- Equal names have equal hashes; what else a hash is doesn't matter. Assumes nothing.
+-- A table of the files' hashes: a slot's name and type are compared only with those of the lower slots that have its hash.
+-- Equal names with equal types have equal hashes; what else a hash is doesn't matter. Assumes nothing.
 use mathlib.Core.Path.{_≡_}
 use mathlib.Core.Bool.{Bool, true}
 use mathlib.Core.List.{List}
@@ -14,14 +14,14 @@ use Rattle.view.specs.Disk.{used}
 use Rattle.view.specs.Rules.{repeated}
 use Rattle.image.specs.Image.{viewOf}
 
--- A hash of the two keys of a name's area: the halves of both, times powers of 31, modulo a prime.
-abbrev pub hashOf : ℕ → ℕ → ℕ
-hashOf low high = (low % 4294967296 + 31 * (low / 4294967296) + 961 * (high % 4294967296) + 29791 * (high / 4294967296)) % 1009
+-- A hash of the two keys of a name's area and a type: the halves of both keys and the type, times powers of 31, modulo a prime.
+abbrev pub hashOf : ℕ → ℕ → ℕ → ℕ
+hashOf low high type = (low % 4294967296 + 31 * (low / 4294967296) + 961 * (high % 4294967296) + 29791 * (high / 4294967296) + 923521 * type) % 1009
 
 abbrev pub slotHash : Layout → (ℕ → ℕ) → ℕ → ℕ
-slotHash l b s = hashOf (number 8 b (slotOffset l s)) (number 8 b (slotOffset l s + 8))
+slotHash l b s = hashOf (number 8 b (slotOffset l s)) (number 8 b (slotOffset l s + 8)) (viewOf l b .entry s .type)
 
--- What a function that hashes a slot's name answers: a place of the table.
+-- What a function that hashes a slot's name and type answers: a place of the table.
 pub record Hash (l : Layout) (b : ℕ → ℕ) (s r : ℕ) : Type 0 where
   pub value : r ≡ slotHash l b s
   pub small : r < 1009

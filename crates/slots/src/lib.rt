@@ -1,7 +1,7 @@
 // The directory of an image's head: a slot's fields, and refusals 2, 4 and 5 with the number of used slots.
 // Only the crates above call these; that the directory lies in the head is shown by its length.
 ghost use mathlib.Core.Path.{_≡_};
-ghost use mathlib.Core.Bool.{not};
+ghost use mathlib.Core.Bool.{true, not};
 ghost use Prim.Native.Nat.{_+_, _≤_, _<_};
 ghost use lib.ListN.{length};
 ghost use Rattle.laws.specs.Reader.{bytes};
@@ -139,10 +139,17 @@ pub fn key(head: &[u8], at: usize) -> usize
     blocks::number4(head, at) + 4294967296 * blocks::number4(head, at + 4)
 }
 
-// Whether a slot is used and its name's two halves have these keys.
-pub fn has_keys(head: &[u8], layout: layout::Layout, slot: usize, low: usize, high: usize) -> bool
+// Whether the two halves of a slot's name have these keys and its type is this one. Of a type that files have that is no empty slot.
+pub fn has_keys(
+    head: &[u8],
+    layout: layout::Layout,
+    slot: usize,
+    low: usize,
+    high: usize,
+    letter: u8,
+) -> bool
     requires { ⌜ slotOffset layout slot + 24 ≤ length (now head) ⌝ }
-    ensures { λ r. ⌜ r ≡ hasKeys layout (bytes (now (head .entry))) slot low high ⌝ }
+    ensures { λ r. ⌜ r ≡ hasKeys layout (bytes (now (head .entry))) slot low high letter ⌝ }
 {
     let at = layout.directory + 24 * slot;
     if key(head, at) != low {
@@ -151,18 +158,24 @@ pub fn has_keys(head: &[u8], layout: layout::Layout, slot: usize, low: usize, hi
     if key(head, at + 8) != high {
         return false;
     }
-    is_used(head, layout, slot)
+    letter == type_of(head, layout, slot)
 }
 
-// The lowest used slot whose name's area has these keys.
-pub fn find_keys(head: &[u8], layout: layout::Layout, low: usize, high: usize) -> laws::Lowest
+// The lowest slot whose name's area has these keys and whose type is this one.
+pub fn find_keys(
+    head: &[u8],
+    layout: layout::Layout,
+    low: usize,
+    high: usize,
+    letter: u8,
+) -> laws::Lowest
     requires { ⌜ slotOffset layout (layout .slots) ≤ length (now head) ⌝ }
-    ensures { λ r. ⌜ r ≡ lowest (λ s. hasKeys layout (bytes (now (head .entry))) s low high) 0 (layout .slots) ⌝ }
+    ensures { λ r. ⌜ r ≡ lowest (λ s. hasKeys layout (bytes (now (head .entry))) s low high letter) 0 (layout .slots) ⌝ }
 {
     let end = layout.slots;
     let mut slot = 0;
     while slot < end {
-        if has_keys(head, layout, slot, low, high) {
+        if has_keys(head, layout, slot, low, high, letter) {
             return laws::Lowest::At(slot);
         }
         slot += 1;
@@ -173,7 +186,8 @@ pub fn find_keys(head: &[u8], layout: layout::Layout, low: usize, high: usize) -
 // Half a key's bytes make a number below this.
 const HALF: usize = 4294967296;
 
-// A hash of a slot's name: the halves of both keys, so that the sum fits and one division does; by a prime, so that every byte counts.
+// A hash of a slot's name and type: the halves of both keys, so that the sum fits and one division does; by a prime, so that every byte counts. With the
+// type in it a sample and the program of its name are as seldom compared as any two files.
 fn hash_of(head: &[u8], layout: layout::Layout, slot: usize) -> usize
     requires { ⌜ slotOffset layout slot + 24 ≤ length (now head) ⌝ }
     ensures { λ r. ⌜ Hash layout (bytes (now (head .entry))) slot r ⌝ }
@@ -181,7 +195,9 @@ fn hash_of(head: &[u8], layout: layout::Layout, slot: usize) -> usize
     let at = layout.directory + 24 * slot;
     let low = key(head, at);
     let high = key(head, at + 8);
-    (low % HALF + 31 * (low / HALF) + 961 * (high % HALF) + 29791 * (high / HALF)) % 1009
+    let letter = blocks::wide(type_of(head, layout, slot));
+    (low % HALF + 31 * (low / HALF) + 961 * (high % HALF) + 29791 * (high / HALF) + 923521 * letter)
+        % 1009
 }
 
 // An element of the table as a number.
@@ -191,7 +207,7 @@ fn wide(value: u16) -> usize
     value as usize
 }
 
-// Whether a slot's name stands in a lower used slot: only those with its hash are compared, from the highest of them on downwards.
+// Whether a used slot's name and type stand in a lower slot: only those with its hash are compared, from the highest of them on downwards.
 fn stands_below(
     head: &[u8],
     layout: layout::Layout,
@@ -199,16 +215,17 @@ fn stands_below(
     top: usize,
     slot: usize,
 ) -> bool
-    requires { ⌜ (slotOffset layout slot + 24 ≤ length (now head)) × (slot < 512) × Lowers layout (bytes (now head)) (now lowers) slot × (top ≡ highest (hasHashOf layout (bytes (now head)) slot) slot) ⌝ }
+    requires { ⌜ (slotOffset layout slot + 24 ≤ length (now head)) × (slot < 512) × (used (viewOf layout (bytes (now head)) .entry slot) ≡ true) × Lowers layout (bytes (now head)) (now lowers) slot × (top ≡ highest (hasHashOf layout (bytes (now head)) slot) slot) ⌝ }
     ensures { λ r. ⌜ r ≡ any (hasNameOf layout (viewOf layout (bytes (now (head .entry)))) slot) 0 slot ⌝ }
 {
     let at = layout.directory + 24 * slot;
     let low = key(head, at);
     let high = key(head, at + 8);
+    let letter = type_of(head, layout, slot);
     let mut next = top;
     while next != 0 {
         let other = next - 1;
-        if has_keys(head, layout, other, low, high) {
+        if has_keys(head, layout, other, low, high, letter) {
             return true;
         }
         next = wide(lowers[other]);
@@ -216,7 +233,7 @@ fn stands_below(
     false
 }
 
-// Whether a slot is used and its name stands in a lower used slot. The table takes the slot.
+// Whether a slot is used and its name and type stand in a lower one. The table takes the slot.
 pub fn repeats(
     head: &[u8],
     layout: layout::Layout,
@@ -238,7 +255,7 @@ pub fn repeats(
     found
 }
 
-// The lowest slot whose name stands in a lower used slot (refusal 5), by a table of hashes: for each hash the highest slot so far, for each slot the
+// The lowest slot whose name and type stand in a lower used slot (refusal 5), by a table of hashes: for each hash the highest slot so far, for each slot the
 // next lower one with its hash. Both stand there plus 1; 0 is none.
 pub fn name_fault(head: &[u8], layout: layout::Layout) -> laws::Lowest
     requires { ⌜ LayoutRight layout × (slotOffset layout (layout .slots) ≤ length (now head)) ⌝ }

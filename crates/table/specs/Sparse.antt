@@ -93,6 +93,10 @@ systems l (suc n) s = value n (l .reserved) (systems l n s)
 abbrev pub blank : Layout → Sparse
 blank l = systems l (l .system) (pick (l .second) (byte 16 255 zeros) (identities l (l .slots) zeros))
 
+-- a slot's type
+abbrev pub typed : Layout → ℕ → ℕ → Sparse → Sparse
+typed l slot v s = byte (slotOffset l slot + 16) v s
+
 -- A file in a slot: its name is one stored byte over and over, its type the lowest, its identity the layout's.
 abbrev pub file : Layout → ℕ → ℕ → ℕ → ℕ → Sparse → Sparse
 file l slot letter size start s =
@@ -100,6 +104,6 @@ file l slot letter size start s =
     run (l .letters) at letter
     (run (15 - l .letters) (at + l .letters) (l .pad)
     (byte (at + 15) (l .last)
-    (byte (at + 16) (l .least)
+    (typed l slot (l .least)
     (word (at + 17) (size % 65536) (byte (at + 19) (size / 65536)
     (word (at + 20) start (identity l slot (l .identity) s)))))))

@@ -8,7 +8,7 @@ use Rattle.laws.specs.declared.Refusal.{Refusal}
 use Rattle.layout.specs.declared.Layout.{Layout}
 use Rattle.blocks.specs.Blocks.{linksFor}
 use Rattle.map.specs.Map.{Data, Astray, Miscounted}
-use Rattle.view.specs.Disk.{View, formed, Used, Owns}
+use Rattle.view.specs.Disk.{View, formed, Namesakes, Used, Owns}
 
 -- The rules, by their names in `Valid`.
 pub data Rule : Type 0 where
@@ -34,8 +34,8 @@ abbrev pub Breaks : Layout → View → Rule → ℕ → ℕ → Type 0
 Breaks l v system number block = (number ≡ 3) × (block < l .system) × (v .map block ≡ l .reserved → ⊥)
 -- a used slot is malformed
 Breaks l v legal number slot = (number ≡ 4) × Used l v slot × (formed l (v .entry slot) ≡ true → ⊥)
--- its name stands in a lower used slot
-Breaks l v single number slot = (number ≡ 5) × Used l v slot × ((t : ℕ) × (t < slot) × Used l v t × (v .entry slot .area ≡ v .entry t .area))
+-- its name and its type stand in a lower used slot
+Breaks l v single number slot = (number ≡ 5) × Used l v slot × ((t : ℕ) × (t < slot) × Used l v t × Namesakes (v .entry slot) (v .entry t))
 -- its chain goes astray, or has the wrong number of blocks
 Breaks l v linked number slot =
     Used l v slot

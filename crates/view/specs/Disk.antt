@@ -8,6 +8,7 @@ use Prim.Native.Nat.{ℕ, zero, suc, _<_}
 use lib.ListN.{take, length}
 use lib.Dec.{leb, ltb, eqb}
 use Rattle.laws.specs.Truth.{pick, both}
+use Rattle.laws.specs.Lists.{same}
 use Rattle.laws.specs.Member.{In}
 use Rattle.layout.specs.declared.Layout.{Layout}
 use Rattle.blocks.specs.Blocks.{linksFor, readBlocks, blocksFor}
@@ -42,6 +43,11 @@ used e = not (eqb (e .type) 0)
 unfoldable pub formed : Layout → Entry → Bool
 unfolding legalArea legalType
 formed l e = both (legalArea l (e .area)) (both (legalType l (e .type)) (both (leb 1 (e .size)) (eqb (e .identity) (l .identity))))
+
+-- An entry has this name area and this type: a file is known by both (document 02, request six). 0 is no file's type, so no empty slot has them.
+unfoldable pub hasName : List ℕ → ℕ → Entry → Bool
+unfolding same
+hasName area type e = both (same area (e .area)) (eqb type (e .type))
 
 -- The blocks of an entry's chain, as many as its length needs.
 unfoldable pub entryChain : (ℕ → ℕ) → Entry → List ℕ
@@ -79,6 +85,10 @@ filesOf l v s = pick (ltb s (l .slots)) (fileOf l v (v .entry s)) none
 abbrev pub Used : Layout → View → ℕ → Type 0
 Used l v s = (s < l .slots) × (used (v .entry s) ≡ true)
 
+-- Two entries with one name and one type.
+abbrev pub Namesakes : Entry → Entry → Type 0
+Namesakes e f = (e .area ≡ f .area) × (e .type ≡ f .type)
+
 -- Block b is on the chain of slot s.
 abbrev pub Owns : Layout → View → ℕ → ℕ → Type 0
 Owns l v s b = Used l v s × In b (entryChain (v .map) (v .entry s))
@@ -88,8 +98,8 @@ pub record Valid (l : Layout) (v : View) : Type 0 where
   pub system : (k : ℕ) → k < l .system → v .map k ≡ l .reserved
   -- every used slot is well formed
   pub legal : (s : ℕ) → Used l v s → formed l (v .entry s) ≡ true
-  -- no name stands twice, whatever the types
-  pub single : (s t : ℕ) → Used l v s → Used l v t → v .entry s .area ≡ v .entry t .area → s ≡ t
+  -- no name stands twice within one type
+  pub single : (s t : ℕ) → Used l v s → Used l v t → Namesakes (v .entry s) (v .entry t) → s ≡ t
   -- every chain lies in the data area, is as long as its file needs, and ends there
   pub linked : (s : ℕ) → Used l v s → Chained l (v .map) (linksFor (v .entry s .size)) (v .entry s .start)
   -- no block is on two chains

@@ -15,8 +15,8 @@ use Rattle.laws.specs.Lemmas.Scan.{nowhere→, →nowhere, at→, lowest-least,
 use Rattle.laws.specs.declared.Refusal.{Refusal}
 use Rattle.laws.specs.declared.Lowest.{Lowest}
 use Rattle.laws.specs.declared.Lowest.the-variants.{At, Nowhere}
-use Rattle.laws.specs.Lists.{same, meets}
-use Rattle.laws.specs.Lemmas.Lists.{same-refl, same-true, apart-of, meeting}
+use Rattle.laws.specs.Lists.{meets}
+use Rattle.laws.specs.Lemmas.Lists.{apart-of, meeting}
 use Rattle.laws.specs.Member.{In, has}
 use Rattle.laws.specs.Lemmas.Member.{in-has, out-has, decIn}
 use Rattle.layout.specs.declared.Layout.{Layout}
@@ -26,7 +26,8 @@ use Rattle.map.specs.Map.{Walk, Whole, Bad, Cut, Data, Chained, Astray, Miscoun
 use Rattle.map.specs.Lemmas.Walks.{walk-chained, chained-walk, walk-astray, walk-miscounted, astray-walk, miscounted-walk}
 use Rattle.view.specs.declared.Ruled.{Ruled}
 use Rattle.view.specs.declared.Ruled.the-variants.{Pass, Fail}
-use Rattle.view.specs.Disk.{View, used, formed, chainOf, owned, Used, Owns, Valid}
+use Rattle.view.specs.Disk.{View, used, formed, chainOf, owned, Namesakes, Used, Owns, Valid}
+use Rattle.view.specs.Lemmas.Namesakes.{namesakes-named, named-namesakes, namesakes-used, namesakes-back}
 use Rattle.view.specs.Lemmas.Counting.{slot-in, owned-by, by-owned}
 use Rattle.view.specs.Rules.{orFail, badSystem, malformed, hasNameOf, repeated, walkOf, broken, sharing, stray, rules}
 use Rattle.view.specs.Broken.{Rule, system, legal, single, linked, apart, owner, turn, Breaks, Due}
@@ -119,8 +120,8 @@ module _ (l : Layout) (v : View) where
       let w = both-true (used (v .entry s)) (any (hasNameOf l v s) 0 s) e in
       let o = some→ (hasNameOf l v s) 0 s (w .1) in
       let t = o .0 in
-      let n = both-true (used (v .entry t)) (same (v .entry s .area) (v .entry t .area)) (o .3) in
-      (refl, (omega arith, w .0), (t, omega (arith, o .2), (omega (arith, o .2), n .0), same-true (v .entry s .area) (v .entry t .area) (n .1)))
+      let n = named-namesakes (v .entry s) (v .entry t) (o .3) in
+      (refl, (omega arith, w .0), (t, omega (arith, o .2), (omega (arith, o .2), namesakes-used (v .entry s) (v .entry t) n (w .0)), n))
   hits linked s h q e =
       let w = both-true (used (v .entry s)) (not (isWhole (walkOf l v s))) e in
       linked-by s (omega arith, w .0) (walkOf l v s) refl (not-true (isWhole (walkOf l v s)) (w .1))
@@ -160,7 +161,7 @@ module _ (l : Layout) (v : View) where
     }
     misses single n s b =
         let t = b .2 in
-        let here : hasNameOf l v s (t .0) ≡ true = true-both (used (v .entry (t .0))) _ (t .2 .1) (rw (t .3) (same-refl (v .entry (t .0) .area))) in
+        let here : hasNameOf l v s (t .0) ≡ true = namesakes-named (v .entry s) (v .entry (t .0)) (t .3) in
         record {
           low = omega arith;
           high = omega (arith, b .1 .0);
@@ -315,9 +316,9 @@ module _ (l : Layout) (v : View) where
     pub unbroken-legal : Unbroken legal → (s : ℕ) → Used l v s → formed l (v .entry s) ≡ true
     unbroken-legal u s w = true-if (formed l (v .entry s)) (λ e. u 4 s (refl, w, λ t. clash t e))
 
-    pub unbroken-single : Unbroken single → (s t : ℕ) → Used l v s → Used l v t → v .entry s .area ≡ v .entry t .area → s ≡ t
+    pub unbroken-single : Unbroken single → (s t : ℕ) → Used l v s → Used l v t → Namesakes (v .entry s) (v .entry t) → s ≡ t
     unbroken-single u s t x y e =
-        either-side (λ s t. (Used l v s × Used l v t) × (v .entry s .area ≡ v .entry t .area)) (λ s t p. ((p .0 .1, p .0 .0), sym (p .1)))
+        either-side (λ s t. (Used l v s × Used l v t) × Namesakes (v .entry s) (v .entry t)) (λ s t p. ((p .0 .1, p .0 .0), namesakes-back (v .entry s) (v .entry t) (p .1)))
         (λ s t h p. u 5 s (refl, p .0 .0, (t, h, p .0 .1, p .1))) s t ((x, y), e)
 
     pub unbroken-linked : Unbroken linked → (s : ℕ) → Used l v s → Chained l (v .map) (linksFor (v .entry s .size)) (v .entry s .start)

@@ -1,5 +1,6 @@
 -- Lemmas that only proofs use.
 pub mod Formed
+pub mod Namesakes
 pub mod Kept
 pub mod Counting
 pub mod Head

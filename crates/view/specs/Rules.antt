@@ -7,14 +7,14 @@ use Rattle.laws.specs.Refusals.{refusalAt}
 use Rattle.laws.specs.Scan.{lowest, any}
 use Rattle.laws.specs.declared.Lowest.{Lowest}
 use Rattle.laws.specs.declared.Lowest.the-variants.{At, Nowhere}
-use Rattle.laws.specs.Lists.{same, meets}
+use Rattle.laws.specs.Lists.{meets}
 use Rattle.laws.specs.Member.{has}
 use Rattle.layout.specs.declared.Layout.{Layout}
 use Rattle.blocks.specs.Blocks.{linksFor}
 use Rattle.map.specs.Map.{Walk, walk, isWhole, faultOf}
 use Rattle.view.specs.declared.Ruled.{Ruled}
 use Rattle.view.specs.declared.Ruled.the-variants.{Pass, Fail}
-use Rattle.view.specs.Disk.{View, used, formed, chainOf, owned}
+use Rattle.view.specs.Disk.{View, used, formed, hasName, chainOf, owned}
 
 -- The refusal at the place found, or what comes next.
 abbrev pub orFail : (ℕ → ℕ) → Lowest → Ruled → Ruled
@@ -31,10 +31,10 @@ module _ (l : Layout) (v : View) where
   unfolding used formed
   malformed s = both (used (v .entry s)) (not (formed l (v .entry s)))
 
-  -- 5: its name stands in a lower used slot
+  -- 5: its name and its type stand in a lower slot, which is used as it is
   unfoldable pub hasNameOf : ℕ → ℕ → Bool
-  unfolding used same
-  hasNameOf s t = both (used (v .entry t)) (same (v .entry s .area) (v .entry t .area))
+  unfolding hasName
+  hasNameOf s t = hasName (v .entry s .area) (v .entry s .type) (v .entry t)
 
   unfoldable pub repeated : ℕ → Bool
   unfolding used hasNameOf any

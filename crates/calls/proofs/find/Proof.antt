@@ -11,7 +11,7 @@ use Rattle.calls.proofs.find.Tie as tie
 returns : tie.Need-returns
 returns c =
     let a = c .before .before .before .before .before .before .args in
-    call-refused (now (a .image)) (findCall (now (a .name))) (c .before .before .before .check .ensures) (c .before .enum-told .given .1) (c .refusal-of .ensures)
+    call-refused (now (a .image)) (findCall (now (a .name)) (a .letter)) (c .before .before .before .check .ensures) (c .before .enum-told .given .1) (c .refusal-of .ensures)
 
 judge-name-requires : tie.Need-judge-name-requires
 judge-name-requires c κs =
@@ -25,7 +25,7 @@ returns-2 c =
     let y = c .before .before in
     let k = y .before .before .before .before in
     let a = k .before .before .before .args in
-    find-done (now (a .image)) (k .check .ensures) (y .before .before .checked .given .1) (y .layout-of .ensures) (now (a .name)) (c .before .judge-name .ensures) (c .found-by .ensures)
+    find-done (now (a .image)) (k .check .ensures) (y .before .before .checked .given .1) (y .layout-of .ensures) (now (a .name)) (a .letter) (c .before .judge-name .ensures) (c .found-by .ensures)
 
 pub find-spec : {M : Type 1} → statement M
 find-spec =

@@ -11,7 +11,7 @@ use Rattle.calls.proofs.remove.Tie as tie
 returns : tie.Need-returns
 returns c =
     let a = c .before .before .before .before .before .before .before .args in
-    call-refused (now (a .image)) (removeCall (now (a .name))) (c .before .before .before .check .ensures) (c .before .enum-told .given .1) (c .refusal-of .ensures)
+    call-refused (now (a .image)) (removeCall (now (a .name)) (a .letter)) (c .before .before .before .check .ensures) (c .before .enum-told .given .1) (c .refusal-of .ensures)
 
 judge-name-requires : tie.Need-judge-name-requires
 judge-name-requires c κs =
@@ -29,7 +29,7 @@ remove-slot-requires c κs =
     let a = k .before .before .before .before .args in
     let img = now (a .image) in
     let yes = y .before .before .checked .given .1 in
-    remove-needs img (k .check .ensures) yes (y .layout-of .ensures) (now (a .name)) (j .judge-name .ensures) (c .before .before .judged2 .given .1)
+    remove-needs img (k .check .ensures) yes (y .layout-of .ensures) (now (a .name)) (a .letter) (j .judge-name .ensures) (c .before .before .judged2 .given .1)
 
 returns-2 : tie.Need-returns-2
 returns-2 c =
@@ -39,7 +39,7 @@ returns-2 c =
     let a = k .before .before .before .before .args in
     let img = now (a .image) in
     let yes = y .before .before .checked .given .1 in
-    remove-refused img (k .check .ensures) yes (y .layout-of .ensures) (now (a .name)) (j .judge-name .ensures) (c .before .judged .given .1)
+    remove-refused img (k .check .ensures) yes (y .layout-of .ensures) (now (a .name)) (a .letter) (j .judge-name .ensures) (c .before .judged .given .1)
 
 returns-3 : tie.Need-returns-3
 returns-3 c =
@@ -50,7 +50,7 @@ returns-3 c =
     let img = now (a .image) in
     let yes = y .before .before .checked .given .1 in
     let g = c .before .before in
-    remove-granted img (k .check .ensures) yes (y .layout-of .ensures) (now (a .name)) (j .judge-name .ensures) (g .before .before .before .judged2 .given .1) (g .remove-slot .ensures)
+    remove-granted img (k .check .ensures) yes (y .layout-of .ensures) (now (a .name)) (a .letter) (j .judge-name .ensures) (g .before .before .before .judged2 .given .1) (g .remove-slot .ensures)
 
 pub remove-spec : {M : Type 1} → statement M
 remove-spec =

@@ -1,12 +1,10 @@
 -- On an accepted image a call comes to what the record says of the layout's files; the image meets the disk rules of that layout.
 -- From the check's answer, taken apart, and the layout made of its kind and density. Assumes nothing.
 use mathlib.Core.Path.{_≡_, refl, sym, _∙_}
-use mathlib.Core.Bool.{Bool, true, false}
+use mathlib.Core.Bool.{true}
 use mathlib.Core.List.{List, []}
-use mathlib.Core.Option.{Option, none, some}
 use Prim.Native.Nat.{ℕ, _-_, _≤_, _<_}
 use native.Mathlib.Omega.{arith}
-use lib.Dec.{ltb}
 use lib.ListN.{length}
 use borrow.Author.Tests.{ltb-false}
 use Rattle.laws.specs.Reader.{bytes}
@@ -19,79 +17,25 @@ use Rattle.blocks.specs.Blocks.{blocksFor, linksFor}
 use Rattle.names.specs.Names.{legalName}
 use Rattle.map.specs.Map.{mapAt, freeBlocks, freeCount, Chained}
 use Rattle.map.specs.Lemmas.Free.{free-count}
-use Rattle.view.specs.Disk.{File}
 use Rattle.laws.specs.declared.Refusal.{Refusal}
 use Rattle.image.specs.Image.{viewOf, filesIn, DiskRules, putImage, removeImage}
 use Rattle.changes.specs.Changes.{Puttable}
-use Rattle.record.specs.Record.{Shape, shapeOf, Files, list, find, page, put, remove, valued, done, refusedBy, free, judgeName, judgePut, fileAt, listing, finding, paging, putting, removing}
+use Rattle.record.specs.Record.{shapeOf, list, find, page, put, remove, valued, done, refusedBy, free, judgeName, judgePut, fileAt, listing, finding, paging, putting, removing}
 use Rattle.record.specs.Lemmas.Granted.{granted-put}
 use Rattle.record.specs.Lemmas.Update.{free-is, put-slot, content-some, remove-slot}
 use Rattle.record.specs.declared.Judged.{Judged}
 use Rattle.record.specs.declared.Judged.the-variants.{Refuse, Grant}
-use Rattle.record.specs.Step.{after, stepImage}
+use Rattle.record.specs.Step.{after}
 use Rattle.rules.specs.declared.Checked.{Checked}
 use Rattle.rules.specs.declared.Checked.the-variants.{Accepted}
 use Rattle.rules.specs.Check.{came, checkOf, callOf}
 use Rattle.rules.specs.Accepted.{accepted-rules, accepted-counts}
+use Rattle.rules.specs.Lemmas.States.{step-list, step-find, step-put, step-remove, step-page}
 use Rattle.calls.specs.Answers.{foundOf, foundBy}
 use Rattle.calls.specs.Metered.{pageCost, costIn}
 use Rattle.calls.specs.Lemmas.Answers.{call-accepted}
 use Rattle.calls.specs.declared.Found.{Found}
 use Rattle.calls.specs.Lemmas.Paging.{size-some}
-
--- ---- the record's answer is the same whatever the state is, files or an image
-
-module _ (shape : Shape) (img : List ℕ) where
-  abbrev l : Layout
-  l = shape .layout
-
-  listing-on : (w : Option File) → came (listing (filesIn l img) w .answer) (listing (filesIn l img) w .output) img ≡ listing img w
-  listing-on none = refl
-  listing-on (some f) = refl
-
-  finding-on : (j : Judged) → came (finding (filesIn l img) j .answer) (finding (filesIn l img) j .output) img ≡ finding img j
-  finding-on (Refuse r) = refl
-  finding-on (Grant s) = refl
-
-  paging-on : (w : Option File) (offset : ℕ) (out : List ℕ) → came (paging (filesIn l img) w offset out .answer) (paging (filesIn l img) w offset out .output) img ≡ paging img w offset out
-  paging-on none offset out = refl
-  paging-on (some f) offset out = go (ltb (length (f .content)) offset) refl
-    where
-      go : (t : Bool) → ltb (length (f .content)) offset ≡ t
-          → came (paging (filesIn l img) (some f) offset out .answer) (paging (filesIn l img) (some f) offset out .output) img ≡ paging img (some f) offset out
-      go true e = rw e refl
-      go false e = rw e refl
-
-  step-list : (s : ℕ) → stepImage shape img (list s) ≡ listing img (fileAt l (filesIn l img) s)
-  unfolding stepImage
-  step-list s = listing-on (fileAt l (filesIn l img) s)
-
-  step-find : (name : List ℕ) → stepImage shape img (find name) ≡ finding img (judgeName l (filesIn l img) name)
-  unfolding stepImage
-  step-find name = finding-on (judgeName l (filesIn l img) name)
-
-  putting-on : (next : ℕ → Files) (change : ℕ → List ℕ) (j : Judged)
-      → came (putting (filesIn l img) next j .answer) (putting (filesIn l img) next j .output) (after img change j) ≡ putting img change j
-  putting-on next change (Refuse r) = refl
-  putting-on next change (Grant s) = refl
-
-  removing-on : (next : ℕ → Files) (change : ℕ → List ℕ) (j : Judged)
-      → came (removing (filesIn l img) next j .answer) (removing (filesIn l img) next j .output) (after img change j) ≡ removing img change j
-  removing-on next change (Refuse r) = refl
-  removing-on next change (Grant s) = refl
-
-  step-put : (name : List ℕ) (type : ℕ) (content : List ℕ)
-      → stepImage shape img (put name type content) ≡ putting img (λ s. putImage l img s name type content) (judgePut l (filesIn l img) name type content)
-  unfolding stepImage
-  step-put name type content = putting-on _ (λ s. putImage l img s name type content) (judgePut l (filesIn l img) name type content)
-
-  step-remove : (name : List ℕ) → stepImage shape img (remove name) ≡ removing img (removeImage l img) (judgeName l (filesIn l img) name)
-  unfolding stepImage
-  step-remove name = removing-on _ (removeImage l img) (judgeName l (filesIn l img) name)
-
-  step-page : (s offset : ℕ) (out : List ℕ) → stepImage shape img (page s offset out) ≡ paging img (fileAt l (filesIn l img) s) offset out
-  unfolding stepImage
-  step-page s offset out = paging-on (fileAt l (filesIn l img) s) offset out
 
 -- find's answer by its judgement
 found-came : {img : List ℕ} (j : Judged) → came (foundOf (foundBy j)) [] img ≡ finding img j
@@ -119,9 +63,9 @@ module _ (img : List ℕ) {c : Checked} {k : Kind} {d : Density} {f n : ℕ} (ch
   pub list-done : (s : ℕ) → listing img (fileAt l (filesIn l img) s) ≡ callOf img (list s)
   list-done s = rw made (sym (call-accepted img (list s) checked yes ∙ step-list (shapeOf k d) img s))
 
-  pub find-done : (name : List ℕ) {j : Judged} {r : Found} → j ≡ judgeName l (filesIn l img) name → r ≡ foundBy j → came (foundOf r) [] img ≡ callOf img (find name)
-  find-done name {j} e t =
-      rw t (found-came j ∙ rw (e, made) (sym (call-accepted img (find name) checked yes ∙ step-find (shapeOf k d) img name)))
+  pub find-done : (name : List ℕ) (type : ℕ) {j : Judged} {r : Found} → j ≡ judgeName l (filesIn l img) name type → r ≡ foundBy j → came (foundOf r) [] img ≡ callOf img (find name type)
+  find-done name type {j} e t =
+      rw t (found-came j ∙ rw (e, made) (sym (call-accepted img (find name type) checked yes ∙ step-find (shapeOf k d) img name type)))
 
   pub page-done : (s offset : ℕ) (out : List ℕ) → paging img (fileAt l (filesIn l img) s) offset out ≡ callOf img (page s offset out)
   page-done s offset out = rw made (sym (call-accepted img (page s offset out) checked yes ∙ step-page (shapeOf k d) img s offset out))
@@ -161,14 +105,14 @@ module _ (img : List ℕ) {c : Checked} {k : Kind} {d : Density} {f n : ℕ} (ch
     pub put-legal : {s : ℕ} → j ≡ Grant s → legalName l name ≡ true
     put-legal {s} e = granted-put l (filesIn l img) name type content s (sym judged ∙ e) .name-legal
 
-  module _ (name : List ℕ) {j : Judged} (judged : j ≡ judgeName l (filesIn l img) name) where
-    remove-is : removing img (removeImage l img) j ≡ callOf img (remove name)
-    remove-is = rw (judged, made) (sym (call-accepted img (remove name) checked yes ∙ step-remove (shapeOf k d) img name))
+  module _ (name : List ℕ) (type : ℕ) {j : Judged} (judged : j ≡ judgeName l (filesIn l img) name type) where
+    remove-is : removing img (removeImage l img) j ≡ callOf img (remove name type)
+    remove-is = rw (judged, made) (sym (call-accepted img (remove name type) checked yes ∙ step-remove (shapeOf k d) img name type))
 
-    pub remove-refused : {w : Refusal} → j ≡ Refuse w → came (refusedBy w) [] img ≡ callOf img (remove name)
+    pub remove-refused : {w : Refusal} → j ≡ Refuse w → came (refusedBy w) [] img ≡ callOf img (remove name type)
     remove-refused e = rw e at remove-is
 
-    pub remove-granted : {s : ℕ} {after : List ℕ} → j ≡ Grant s → after ≡ removeImage l img s → came done [] after ≡ callOf img (remove name)
+    pub remove-granted : {s : ℕ} {after : List ℕ} → j ≡ Grant s → after ≡ removeImage l img s → came done [] after ≡ callOf img (remove name type)
     remove-granted e t = rw t (rw e at remove-is)
 
     -- the slot that is removed is used, so its chain is faultless
@@ -176,5 +120,5 @@ module _ (img : List ℕ) {c : Checked} {k : Kind} {d : Density} {f n : ℕ} (ch
         → LayoutRight l × (length img ≡ imageLength l) × (s < l .slots) × (1 ≤ viewOf l (bytes img) .entry s .size)
         × Chained l (mapAt (bytes img)) (linksFor (viewOf l (bytes img) .entry s .size)) (viewOf l (bytes img) .entry s .start)
     remove-needs {s} e =
-        let u = remove-slot l done-right img done-rules name s (sym judged ∙ e) in
+        let u = remove-slot l done-right img done-rules name type s (sym judged ∙ e) in
         (done-right, done-rules .size, u .0, size-some l done-right img done-rules s (u .0) (u .1) refl, done-rules .valid .linked s u)

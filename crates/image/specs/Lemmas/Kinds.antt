@@ -3,14 +3,13 @@
 use mathlib.Core.Path.{_≡_, refl, ap, _∙_}
 use mathlib.Core.Bool.{Bool, true, false}
 use mathlib.Core.Logic.{_↔_}
-use Prim.Native.Nat.{ℕ, _+_, _*_, _<_}
+use Prim.Native.Nat.{ℕ, _+_, _<_}
 use native.Mathlib.Omega.{arith}
-use borrow.Author.Tests.{ne-eqb}
 use Rattle.laws.specs.Lemmas.Truth.{clash}
 use Rattle.layout.specs.declared.Layout.{Layout}
 use Rattle.layout.specs.Layouts.{slotOffset}
 use Rattle.layout.specs.Right.{LayoutRight}
-use Rattle.view.specs.Disk.{Entry, used, Valid}
+use Rattle.view.specs.Disk.{used, Valid}
 use Rattle.view.specs.Lemmas.Formed.{formed-parts, type-range}
 use Rattle.image.specs.Image.{entryAt, identityAt, viewOf, PassedOver, OfKind}
 
@@ -22,7 +21,7 @@ module _ (l : Layout) (right : LayoutRight l) (c : ℕ → ℕ) (valid : Valid l
       let z : slotOffset l 0 + 16 ≡ 16 = omega (arith, w .0) in
       let here : viewOf l c .entry 0 .type ≡ 255 = ap c z ∙ p in
       let in-use : used (viewOf l c .entry 0) ≡ true = rw here refl in
-      omega (arith, here, w .2, type-range l (viewOf l c .entry 0) (formed-parts l (viewOf l c .entry 0) (valid .legal 0 (w .1, in-use)) .type) .1)
+      omega (arith, here, w .2, type-range l (viewOf l c .entry 0 .type) (formed-parts l (viewOf l c .entry 0) (valid .legal 0 (w .1, in-use)) .type) .1)
 
   pub kind-kept : (b : ℕ → ℕ) → OfKind l b → (l .second ≡ true → c 16 ≡ b 16) → (l .second ≡ false → (s : ℕ) → s < l .slots → identityAt l c s ≡ l .identity) → OfKind l c
   kind-kept b k low own = record { in-use = record { passed-over = by (l .second) refl; dense = k .in-use .dense }; identified = own }

@@ -1,5 +1,5 @@
--- `mend::kept_with` meets its contract: a slot without the keys is none, of any other the report decides.
--- By the keys. Assumes nothing.
+-- `mend::kept_with` meets its contract: a slot without the keys and the type is none, of any other the report decides.
+-- By the keys and the type. Assumes nothing.
 use mathlib.Core.Path.{sym, _∙_}
 use borrow.Author.Needs.{needs}
 use borrow.Author.Tests.{not-true, not-false}

@@ -31,6 +31,7 @@ use Rattle.map.specs.Lemmas.Walks.{walk-chained, whole-is}
 use Rattle.map.specs.Lemmas.Marks.{marks-more, touched-meets}
 use Rattle.view.specs.Disk.{Entry, View, used, entryChain, chainOf, owned}
 use Rattle.view.specs.Rules.{malformed, hasNameOf, repeated, walkOf, broken, sharing}
+use Rattle.view.specs.Lemmas.Namesakes.{used-typed, empty-unnamed}
 use Rattle.slots.specs.Lemmas.Hashes.{highest-low, highest-above}
 use Rattle.salvage.specs.Salvage.{entriesAfter, diskAfter, reportOf}
 use Rattle.salvage.specs.Lemmas.Judged.{verdict-by, entry-ahead, entry-settled, kept-entry, gone-entry, kept-case, same-owned}
@@ -38,7 +39,7 @@ use Rattle.mend.specs.Steps.{isKept, keptName, nameNote, usedEnd, Report
 
 -- ---- a slot's verdict
 
--- A name that no used slot below has stands in no kept one.
+-- Where no used slot below has the name and the type no kept one has them.
 pub kept-none : (l : Layout) (v : View) (report : List ℕ) (s : ℕ) → used (v .entry s) ≡ true → repeated l v s ≡ false → any (keptName l v report s) 0 s ≡ false
 unfolding repeated keptName
 kept-none l v report s u e =
@@ -71,7 +72,9 @@ module _ (l : Layout) (v : View) (s : ℕ) where
       kept-one : (t : ℕ) → t < s → Dec (reportOf l v t ≡ 1) → keptName l v report s t ≡ hasNameOf l here s t
       unfolding keptName hasNameOf
       kept-one t h (yes e) = rw (j .said t h, e, as-given, kept-entry l v t (rw e refl) s h) refl
-      kept-one t h (no n) = rw (j .said t h, ne-eqb (reportOf l v t) 1 n, gone-entry l v t n s h) refl
+      kept-one t h (no n) =
+          rw (j .said t h, ne-eqb (reportOf l v t) 1 n)
+          (sym (empty-unnamed (here .entry s .area) (here .entry s .type) (here .entry t) (used-typed (here .entry s) is-used) (gone-entry l v t n s h)))
 
       names : any (keptName l v report s) 0 s ≡ repeated l here s
       unfolding repeated

@@ -66,7 +66,7 @@ pub reading-keeps : (shape : Shape) (files : Files) (c : Call) → Reading c →
 unfolding stepFiles
 reading-keeps shape files check reads-check = refl
 reading-keeps shape files (list s) (reads-list _) = listing-keeps files (fileAt (shape .layout) files s)
-reading-keeps shape files (find name) (reads-find _) = finding-keeps files (judgeName (shape .layout) files name)
+reading-keeps shape files (find name type) (reads-find _ _) = finding-keeps files (judgeName (shape .layout) files name type)
 reading-keeps shape files (page s offset out) (reads-page _ _ _) = paging-keeps files (fileAt (shape .layout) files s) offset out
 reading-keeps shape files (salvage report) (reads-salvage _) = salvaging-keeps files (shape .layout) report
 
@@ -88,12 +88,12 @@ module _ (shape : Shape) (right : LayoutRight (shape .layout)) (img : List ℕ) 
     files = λ t. rw e (put-files l right img rules name type content s e t);
   }
 
-  remove-step : (name : List ℕ) (j : Judged) → judgeName l (filesIn l img) name ≡ j → Step shape img (remove name)
+  remove-step : (name : List ℕ) (type : ℕ) (j : Judged) → judgeName l (filesIn l img) name type ≡ j → Step shape img (remove name type)
   unfolding imageAfter stepFiles
-  remove-step name (Refuse r) e = record { rules = rw e rules; files = λ t. rw e refl }
-  remove-step name (Grant s) e = record {
-    rules = rw e (remove-rules l right img rules name s e);
-    files = λ t. rw e (remove-files l right img rules name s e t);
+  remove-step name type (Refuse r) e = record { rules = rw e rules; files = λ t. rw e refl }
+  remove-step name type (Grant s) e = record {
+    rules = rw e (remove-rules l right img rules name type s e);
+    files = λ t. rw e (remove-files l right img rules name type s e t);
   }
 
   reading-step : (c : Call) → Reading c → imageAfter l img c ≡ img → Step shape img c
@@ -106,8 +106,8 @@ module _ (shape : Shape) (right : LayoutRight (shape .layout)) (img : List ℕ) 
   unfolding imageAfter
   step check = reading-step check reads-check refl
   step (list s) = reading-step (list s) (reads-list s) refl
-  step (find name) = reading-step (find name) (reads-find name) refl
+  step (find name type) = reading-step (find name type) (reads-find name type) refl
   step (page s offset out) = reading-step (page s offset out) (reads-page s offset out) refl
   step (put name type content) = put-step name type content (judgePut l (filesIn l img) name type content) refl
-  step (remove name) = remove-step name (judgeName l (filesIn l img) name) refl
+  step (remove name type) = remove-step name type (judgeName l (filesIn l img) name type) refl
   step (salvage report) = reading-step (salvage report) (reads-salvage report) refl

@@ -1,5 +1,5 @@
 -- A put or a remove that the record grants: the image that it leaves meets the disk rules, and its files are the record's.
--- A granted name is in a used slot, a granted put has an empty slot, a new name and enough free blocks; the rest is `view` and `image`. Assumes nothing.
+-- A granted name is in a used slot, a granted put has an empty slot, a name that is new within its type and enough free blocks; the rest is `view` and `image`. Assumes nothing.
 use mathlib.Core.Path.{_≡_, refl, sym, ap, _∙_}
 use mathlib.Core.Bool.{Bool, true, false, not, true≢false}
 use mathlib.Core.List.{List}
@@ -15,7 +15,6 @@ use Rattle.laws.specs.Truth.{pick}
 use Rattle.laws.specs.Lemmas.Truth.{clash}
 use Rattle.laws.specs.Lemmas.Scan.{at→, nowhere→}
 use Rattle.laws.specs.Scan.{total}
-use Rattle.laws.specs.Lemmas.Lists.{same-refl}
 use Rattle.laws.specs.Lemmas.Splice.{getD-splice-in}
 use Rattle.laws.specs.Reader.{bytes}
 use Rattle.laws.specs.Lemmas.Reader.{length-tab}
@@ -32,7 +31,7 @@ use Rattle.names.specs.NameLaws.{length-area, area-legal, name-back}
 use Rattle.map.specs.Map.{Data, mapAt, freeBlocks, freeCount}
 use Rattle.map.specs.Lemmas.Free.{in-free, free-distinct, free-count}
 use Rattle.map.specs.Lemmas.Linking.{first-below}
-use Rattle.view.specs.Disk.{Entry, View, File, used, formed, entryChain, fileOf, filesOf, Used, Valid, takes}
+use Rattle.view.specs.Disk.{Entry, View, File, used, formed, entryChain, contentOf, fileOf, filesOf, Namesakes, Used, Valid, takes}
 use Rattle.view.specs.Lemmas.Formed.{parts-formed}
 use Rattle.view.specs.Lemmas.Kept.{file-at, file-out, owned-data}
 use Rattle.view.specs.Lemmas.Counting.{free-blocks}
@@ -44,22 +43,25 @@ use Rattle.image.specs.Lemmas.Entries.{identity-byte}
 use Rattle.image.specs.Lemmas.Kinds.{kind-kept}
 use Rattle.record.specs.Record.{named, keptFile, isEmpty, replaced, slotOf, emptySlot, free, judgeName, judgePut}
 use Rattle.record.specs.declared.Judged.the-variants.{Grant}
+use Rattle.record.specs.Types.{named-exactly}
 use Rattle.record.specs.Lemmas.Granted.{Puts, granted-name, granted-put}
 
 -- ---- slots and their files
 
--- a slot with a named file is used, and a used slot with the name is named
-named-used : (l : Layout) (v : View) (name : List ℕ) (t : ℕ) → t < l .slots → named l name (filesOf l v t) ≡ true → used (v .entry t) ≡ true
+-- a slot with a named file is used, and a used slot with the name and the type is named
+named-used : (l : Layout) (v : View) (name : List ℕ) (type t : ℕ) → t < l .slots → named l name type (filesOf l v t) ≡ true → used (v .entry t) ≡ true
 unfolding filesOf
-named-used l v name t h e = go (used (v .entry t)) refl
+named-used l v name type t h e = go (used (v .entry t)) refl
   where
     go : (u : Bool) → used (v .entry t) ≡ u → used (v .entry t) ≡ true
     go true p = p
     go false p = absurd (true≢false (sym (rw (lt-ltb t (l .slots) h, p) at e)))
 
-used-named : (l : Layout) (v : View) (name : List ℕ) (t : ℕ) → Used l v t → nameOf l (v .entry t .area) ≡ capitals l name → named l name (filesOf l v t) ≡ true
-unfolding filesOf
-used-named l v name t u e = rw (lt-ltb t (l .slots) (u .0), u .1, e) (same-refl (capitals l name))
+used-named : (l : Layout) (v : View) (name : List ℕ) (type t : ℕ) → Used l v t → nameOf l (v .entry t .area) ≡ capitals l name → v .entry t .type ≡ type → named l name type (filesOf l v t) ≡ true
+unfolding fileOf
+used-named l v name type t u e y =
+    let file : File = record { name = nameOf l (v .entry t .area); type = v .entry t .type; content = contentOf v (v .entry t) } in
+    named-exactly l (filesOf l v) name type t .1 (file, file-at l v t (u .0) ∙ rw (u .1) refl, sym e, sym y)
 
 -- a slot is empty in the record exactly if its entry isn't used
 pub empty-used : (l : Layout) (v : View) (t : ℕ) → t < l .slots → isEmpty (filesOf l v t) ≡ not (used (v .entry t))
@@ -95,12 +97,12 @@ module _ (l : Layout) (right : LayoutRight l) (img : List ℕ) (rules : DiskRule
 
   -- ---- remove
 
-  module _ (name : List ℕ) (s : ℕ) (granted : judgeName l (filesIn l img) name ≡ Grant s) where
+  module _ (name : List ℕ) (type s : ℕ) (granted : judgeName l (filesIn l img) name type ≡ Grant s) where
     pub remove-slot : Used l (viewOf l (bytes img)) s
     unfolding slotOf
     remove-slot =
-        let w = at→ (λ t. named l name (filesIn l img t)) 0 (l .slots) s (granted-name l (filesIn l img) name s granted) in
-        (omega (arith, w .1), named-used l (viewOf l (bytes img)) name s (omega (arith, w .1)) (w .2))
+        let w = at→ (λ t. named l name type (filesIn l img t)) 0 (l .slots) s (granted-name l (filesIn l img) name type s granted) in
+        (omega (arith, w .1), named-used l (viewOf l (bytes img)) name type s (omega (arith, w .1)) (w .2))
 
     pub remove-inside : (b : ℕ) → In b (entryChain (mapAt (bytes img)) (entryAt (bytes img) (slotOffset l s))) → Data l b
     remove-inside b i = owned-data l right (viewOf l (bytes img)) (rules .valid) s b (remove-slot, i)
@@ -179,6 +181,10 @@ module _ (l : Layout) (right : LayoutRight l) (img : List ℕ) (rules : DiskRule
     unfolding newEntry
     new-area = refl
 
+    new-type : new .type ≡ type
+    unfolding newEntry
+    new-type = refl
+
     new-start : new .start < 65536
     unfolding newEntry
     new-start = first-below ks 0 (l .blocks) 65536 (λ b i. chosen-inside b i .1) (omega (arith, right .blocks-most)) (omega arith)
@@ -195,11 +201,11 @@ module _ (l : Layout) (right : LayoutRight l) (img : List ℕ) (rules : DiskRule
     unfolding newEntry
     new-formed = parts-formed l new (record { area = area-legal l right name (passed .name-legal); type = passed .type-legal; size = content-some; own = refl })
 
-    -- no file has the name
-    new-name : (t : ℕ) → Used l (viewOf l (bytes img)) t → entryAt (bytes img) (slotOffset l t) .area ≡ new .area → ⊥
+    -- no file has the name and the type
+    new-name : (t : ℕ) → Used l (viewOf l (bytes img)) t → Namesakes (entryAt (bytes img) (slotOffset l t)) new → ⊥
     new-name t u e =
-        clash (used-named l (viewOf l (bytes img)) name t u (ap (nameOf l) (e ∙ new-area) ∙ name-back l right name (passed .name-legal)))
-        (nowhere→ (λ x. named l name (filesIn l img x)) 0 (l .slots) (unfold slotOf in passed .new-name) t (omega arith) (omega (arith, u .0)))
+        clash (used-named l (viewOf l (bytes img)) name type t u (ap (nameOf l) (e .0 ∙ new-area) ∙ name-back l right name (passed .name-legal)) (e .1 ∙ new-type))
+        (nowhere→ (λ x. named l name type (filesIn l img x)) 0 (l .slots) (unfold slotOf in passed .new-name) t (omega arith) (omega (arith, u .0)))
 
     put-fresh : Fresh l (viewOf l (bytes img)) s new ks content
     unfolding newEntry
@@ -269,7 +275,6 @@ module _ (l : Layout) (right : LayoutRight l) (img : List ℕ) (rules : DiskRule
         let v = viewOf l (bytes img) in
         let w = viewOf l (bytes after) in
         let n : nameOf l (new .area) ≡ capitals l name = ap (nameOf l) new-area ∙ name-back l right name (passed .name-legal) in
-        let y : new .type ≡ type = unfold newEntry in refl in
         files-replaced l v w s (some (keptFile l name type content)) (put-slot .0)
-        (put-here l right v w s new ks content (rules .valid) put-fresh put-effect ∙ rw (n, y) refl)
+        (put-here l right v w s new ks content (rules .valid) put-fresh put-effect ∙ rw (n, new-type) refl)
         (put-others l right v w s new ks content (rules .valid) put-fresh put-effect)

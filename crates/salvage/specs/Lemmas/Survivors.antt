@@ -1,6 +1,6 @@
 -- A disk mended as the run says is valid, whatever it was; a kept slot shows the file that its own chain holds, any other slot none; and a valid
 -- disk keeps all its slots. The kept slots pass the check's own tests, and only blocks off their chains change in the map. Assumes nothing.
-use mathlib.Core.Path.{_≡_, refl, sym, ap, _∙_}
+use mathlib.Core.Path.{_≡_, refl, ap, _∙_}
 use mathlib.Core.Bool.{Bool, true, false}
 use mathlib.Core.Option.{none, some}
 use Prim.Native.Nat.{ℕ, zero, suc, _≤_, _<_}
@@ -14,7 +14,8 @@ use Rattle.blocks.specs.Blocks.{linksFor}
 use Rattle.names.specs.Names.{nameOf}
 use Rattle.map.specs.Map.{Data, Chained}
 use Rattle.map.specs.Lemmas.Chains.{chain-data}
-use Rattle.view.specs.Disk.{Entry, View, used, entryChain, owned, contentOf, fileOf, filesOf, Used, Owns, Valid}
+use Rattle.view.specs.Disk.{View, used, entryChain, owned, contentOf, fileOf, filesOf, Used, Owns, Valid}
+use Rattle.view.specs.Lemmas.Namesakes.{namesakes-kept}
 use Rattle.view.specs.Lemmas.Kept.{Kept, kept-chained, kept-file, used-back, owns-back, owns-on, file-at}
 use Rattle.view.specs.Lemmas.Counting.{owned-by, by-owned}
 use Rattle.view.specs.Broken.{legal, single, linked, apart}
@@ -89,9 +90,7 @@ module _ (l : Layout) (right : LayoutRight l) (v : View) where
     mended-valid = record {
       system = m .system;
       legal = λ s i. rw (m .entry s (i .0)) (unbroken-legal l u right none-malformed s (was s i));
-      single = λ s t i j e.
-          unbroken-single l u right none-repeated s t (was s i) (was t j)
-          (sym (ap (λ (e : Entry). e .area) (m .entry s (i .0))) ∙ e ∙ ap (λ (e : Entry). e .area) (m .entry t (j .0)));
+      single = λ s t i j e. unbroken-single l u right none-repeated s t (was s i) (was t j) (namesakes-kept (m .entry s (i .0)) (m .entry t (j .0)) e);
       linked = λ s i. kept-chained l u w s (keep s (was s i)) (chained s (was s i));
       apart = λ s t b o p. unbroken-apart l u right none-sharing s t b (was-owned s b o) (was-owned t b p);
       owner = owner-of;

@@ -77,10 +77,10 @@ put-none name e pool p q h = rw (← p .value, ← q .value, h) refl
 
 -- ---- calls that name a file
 
-pub named-find : (name e pool : List ℕ) → getD e 0 0 ≡ 2 → namedEntry name e pool ≡ some (find name)
+pub named-find : (name e pool : List ℕ) → getD e 0 0 ≡ 2 → namedEntry name e pool ≡ some (find name (getD e 1 0))
 named-find name e pool h = rw h refl
 
-pub named-remove : (name e pool : List ℕ) → getD e 0 0 ≡ 3 → namedEntry name e pool ≡ some (remove name)
+pub named-remove : (name e pool : List ℕ) → getD e 0 0 ≡ 3 → namedEntry name e pool ≡ some (remove name (getD e 1 0))
 named-remove name e pool h = rw h refl
 
 pub named-put : (name e pool : List ℕ) → getD e 0 0 ≡ 4 → namedEntry name e pool ≡ putEntry name e pool

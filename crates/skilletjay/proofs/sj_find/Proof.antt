@@ -13,7 +13,8 @@ use Rattle.skilletjay.proofs.sj_find.Tie as tie
 
 returns : tie.Need-returns
 returns c =
-    ap (found (now (c .before .before .before .before .args .name))) (c .found-result .ensures ∙ ap (λ (o : Outcome (List ℕ)). foundResult (o .answer)) (c .before .find .ensures))
+    let a = c .before .before .before .before .args in
+    ap (found (now (a .name)) (a .letter)) (c .found-result .ensures ∙ ap (λ (o : Outcome (List ℕ)). foundResult (o .answer)) (c .before .find .ensures))
 
 pub sj-find-spec : {M : Type 1} → statement M
 sj-find-spec = tie.close (tie.spec (λ c κs. search needs) (λ c κs. search needs) returns)

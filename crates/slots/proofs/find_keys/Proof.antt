@@ -1,4 +1,4 @@
--- `slots::find_keys` meets its contract: the lowest slot with the keys of those left is that of all.
+-- `slots::find_keys` meets its contract: the lowest slot with the keys and the type of those left is that of all.
 -- One search, by its laws. Assumes nothing.
 use Prim.Native.Nat.{_-_}
 use native.Mathlib.Omega.{arith}
@@ -10,10 +10,10 @@ use Rattle.slots.proofs.find_keys.Statement.{statement}
 use Rattle.slots.proofs.find_keys.Tie as tie
 
 abbrev Inv-loop : tie.InvT-loop
-Inv-loop head layout low high slots slot₀ slot = Searched (λ s. hasKeys layout (bytes head) s low high) slots slot
+Inv-loop head layout low high letter slots slot₀ slot = Searched (λ s. hasKeys layout (bytes head) s low high letter) slots slot
 
 abbrev μ-loop : tie.MeasureT-loop
-μ-loop head layout low high slots slot₀ slot = slots - slot
+μ-loop head layout low high letter slots slot₀ slot = slots - slot
 
 loop-holds : tie.Need-loop-holds Inv-loop μ-loop
 loop-holds c = searched-none _ _

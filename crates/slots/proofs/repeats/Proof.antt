@@ -1,12 +1,15 @@
--- `slots::repeats` meets its contract: an empty slot repeats no name; of a used one the slots with its hash decide, and then it is the highest of them.
+-- `slots::repeats` meets its contract: an empty slot repeats no file's name and type; of a used one the slots with its hash decide, and then it is the highest of them.
 -- What the table holds at the slot's hash is the highest slot below with it. Assumes nothing.
 use mathlib.Core.Path.{_≡_, sym, ap, _∙_}
+use mathlib.Core.Bool.{true}
 use Prim.Native.Nat.{ℕ}
 use lib.ListN.{getD}
 use borrow.Author.Needs.{needs}
 use borrow.Author.Tests.{not-true, not-false}
 use denote.Ref.{now}
 use Rattle.laws.specs.Reader.{bytes}
+use Rattle.view.specs.Disk.{used}
+use Rattle.image.specs.Image.{viewOf}
 use Rattle.slots.specs.Hashes.{hasHash, hasHashOf, highest}
 use Rattle.slots.specs.Lemmas.Hashes.{tops-same, lowers-same, tops-more, lowers-more, empty-new, used-repeated}
 use Rattle.slots.proofs.repeats.Statement.{statement}
@@ -24,6 +27,10 @@ returns c =
       lowers-on = lowers-same (a .layout) b (a .slot) u _ (s .pre .3);
     }
 
+-- past the first test the slot is used
+filled : (c : tie.After-hash-of) → let a = c .before .before .before .before .args in used (viewOf (a .layout) (bytes (now (a .head))) .entry (a .slot)) ≡ true
+filled c = sym (c .before .before .is-used .ensures) ∙ not-false _ (c .before .if1 .left)
+
 -- at the slot's hash stands the highest slot below that has it
 topped : (c : tie.After-hash-of) → let a = c .before .before .before .before .args in
     let b = bytes (now (a .head)) in
@@ -37,7 +44,7 @@ topped c =
 stands-below-requires : tie.Need-stands-below-requires
 stands-below-requires c κs =
     let s = c .before .before .before .before .before .before .before in
-    (s .pre .0, s .pre .1, s .pre .3, c .wide .ensures ∙ topped (c .before .before .before))
+    (s .pre .0, s .pre .1, filled (c .before .before .before), s .pre .3, c .wide .ensures ∙ topped (c .before .before .before))
 
 returns-2 : tie.Need-returns-2
 returns-2 c =
@@ -45,7 +52,7 @@ returns-2 c =
     let s = hashed .before .before .before .before in
     let a = s .args in
     let b = bytes (now (a .head)) in
-    let u = sym (hashed .before .before .is-used .ensures) ∙ not-false _ (hashed .before .if1 .left) in
+    let u = filled hashed in
     let h = hashed .hash-of .ensures in
     record {
       answer = used-repeated (a .layout) b (a .slot) u (c .stands-below .ensures);

@@ -1,6 +1,6 @@
 -- The table of hashes: none taken, a slot passed over, a slot taken; and the way down through the slots with a hash.
--- What the table holds is the highest slot with a hash, and slots with one name have one hash. Assumes nothing.
-use mathlib.Core.Path.{_≡_, refl, sym, ap, ap₂, _∙_}
+-- What the table holds is the highest slot with a hash, and slots with one name and one type have one hash. Assumes nothing.
+use mathlib.Core.Path.{_≡_, refl, sym, ap, _∙_}
 use mathlib.Core.Bool.{Bool, true, false}
 use mathlib.Core.List.{List}
 use Prim.Native.Nat.{ℕ, zero, suc, _+_, _≤_, _<_}
@@ -11,18 +11,17 @@ use lib.Dec.{eqb}
 use lib.ListN.{length, getD, set, length-set}
 use lib.Seq.{getD-set-same, getD-set-other}
 use borrow.Author.Tests.{eqb-true, eq-eqb, ne-eqb}
-use Rattle.laws.specs.Truth.{pick, both}
+use Rattle.laws.specs.Truth.{pick}
 use Rattle.laws.specs.Lemmas.Truth.{both-true, true-both, clash, true-if, false-both, false-if}
 use Rattle.laws.specs.Scan.{any}
 use Rattle.laws.specs.Lemmas.Scan.{→none, none→}
 use Rattle.layout.specs.declared.Layout.{Layout}
 use Rattle.layout.specs.Layouts.{slotOffset}
-use Rattle.blocks.specs.Numbers.{number}
 use Rattle.view.specs.Disk.{used}
 use Rattle.view.specs.Rules.{hasNameOf, repeated}
+use Rattle.view.specs.Lemmas.Namesakes.{named-namesakes, namesakes-used}
 use Rattle.image.specs.Image.{entryAt, viewOf}
-use Rattle.slots.specs.Keys.{hasKeys}
-use Rattle.slots.specs.Lemmas.Keys.{keys-name}
+use Rattle.slots.specs.Lemmas.Keys.{same-keys}
 use Rattle.slots.specs.Hashes.{hashOf, slotHash, hasHash, hasHashOf, highest, Tops, Lowers}
 
 -- ---- the highest number that passes
@@ -67,6 +66,9 @@ module _ (f : ℕ → Bool) where
       go false p ih q (no z) = ih q (omega arith)
 
 -- ---- hashes
+
+pub same-hash : {low high type x y z : ℕ} → low ≡ x → high ≡ y → type ≡ z → hashOf low high type ≡ hashOf x y z
+same-hash p q r = rw (p, q, r) refl
 
 module _ (l : Layout) (b : ℕ → ℕ) where
   hash-parts : (hash s : ℕ) → hasHash l b hash s ≡ true → (used (viewOf l b .entry s) ≡ true) × (slotHash l b s ≡ hash)
@@ -134,23 +136,21 @@ module _ (l : Layout) (b : ℕ → ℕ) where
   unfolding repeated
   used-repeated s u e = rw u e
 
--- The way down through the slots with a slot's hash. Next is one of them plus 1, or 0, and none from there on upwards has the slot's name.
+-- The way down through the slots with a slot's hash. Next is one of them plus 1, or 0, and none from there on upwards has the slot's name and type.
 pub record Passed (l : Layout) (b : ℕ → ℕ) (s next : ℕ) : Type 0 where
   pub low : next ≤ s
   pub hashed : (k : ℕ) → next ≡ suc k → hasHashOf l b s k ≡ true
   pub none : (t : ℕ) → next ≤ t → t < s → hasNameOf l (viewOf l b) s t ≡ false
 
-module _ (l : Layout) (b : ℕ → ℕ) (small : (k : ℕ) → b k < 256) (s : ℕ) where
-  -- a slot with the name has the hash
+module _ (l : Layout) (b : ℕ → ℕ) (small : (k : ℕ) → b k < 256) (s : ℕ) (here : used (viewOf l b .entry s) ≡ true) where
+  -- a slot with the name and the type is used and has the hash
   name-hash : (t : ℕ) → hasNameOf l (viewOf l b) s t ≡ true → hasHashOf l b s t ≡ true
-  unfolding hasKeys entryAt
+  unfolding hasNameOf entryAt
   name-hash t e =
-      let low = number 8 b (slotOffset l s) in
-      let high = number 8 b (slotOffset l s + 8) in
-      let k : hasKeys l b t low high ≡ true = keys-name l b s t small refl refl refl ∙ e in
-      let q = both-true (used (entryAt b (slotOffset l t))) (both (eqb (number 8 b (slotOffset l t)) low) (eqb (number 8 b (slotOffset l t + 8)) high)) k in
-      let r = both-true (eqb (number 8 b (slotOffset l t)) low) (eqb (number 8 b (slotOffset l t + 8)) high) (q .1) in
-      parts-hash l b (slotHash l b s) t (q .0) (ap₂ hashOf (eqb-true (number 8 b (slotOffset l t)) low (r .0)) (eqb-true (number 8 b (slotOffset l t + 8)) high (r .1)))
+      let n = named-namesakes (viewOf l b .entry s) (viewOf l b .entry t) e in
+      let halves = same-keys b (slotOffset l s) (slotOffset l t) small (n .0) in
+      parts-hash l b (slotHash l b s) t (namesakes-used (viewOf l b .entry s) (viewOf l b .entry t) n here)
+      (same-hash (halves .0) (halves .1) (sym (n .1)))
 
   unnamed : (t : ℕ) → hasHashOf l b s t ≡ false → hasNameOf l (viewOf l b) s t ≡ false
   unnamed t e = false-if (hasNameOf l (viewOf l b) s t) (λ n. clash (name-hash t n) e)

@@ -1,4 +1,4 @@
--- Names compared by keys: a name's area of 16 bytes as two numbers of eight bytes each.
+-- Names compared by keys: a name's area of 16 bytes as two numbers of eight bytes each, and the type.
 -- Numbers of bytes below 256 are equal exactly if their bytes are, by induction on the width. Assumes nothing.
 use mathlib.Core.Path.{_≡_, refl, sym, ap, ap₂, _∙_}
 use mathlib.Core.Bool.{Bool, true, false}
@@ -17,15 +17,10 @@ use Rattle.layout.specs.declared.Layout.{Layout}
 use Rattle.layout.specs.Layouts.{slotOffset}
 use Rattle.blocks.specs.Numbers.{number, top}
 use Rattle.blocks.specs.Lemmas.Numbers.{number-small}
-use Rattle.view.specs.Disk.{Entry, used}
+use Rattle.view.specs.Disk.{hasName}
 use Rattle.view.specs.Rules.{hasNameOf}
 use Rattle.image.specs.Image.{entryAt, viewOf}
 use Rattle.slots.specs.Keys.{hasKeys}
-
--- A used slot with this name area.
-unfoldable pub hasArea : List ℕ → Entry → Bool
-unfolding used same
-hasArea area e = both (used e) (same area (e .area))
 
 -- past a test that passed, the other one decides
 pub both-when : (a b : Bool) → b ≡ true → both a b ≡ a
@@ -85,14 +80,22 @@ keys-same b c x y {low} {high} small less p q = same-truth _ _ to from
         let v = number-small 8 c y less in
         true-both (eqb (number 8 c y) low) (eqb (number 8 c (y + 8)) high) (eq-eqb (number 8 c y) low (omega arith)) (eq-eqb (number 8 c (y + 8)) high (omega arith))
 
--- a slot has the keys of 16 bytes exactly if these are its name's area
-pub keys-area : (l : Layout) (b c : ℕ → ℕ) (x t : ℕ) {low high : ℕ} → ((k : ℕ) → b k < 256) → ((k : ℕ) → c k < 256) → low ≡ number 8 b x → high ≡ number 8 b (x + 8)
-    → hasKeys l c t low high ≡ hasArea (tab b x 16) (viewOf l c .entry t)
-unfolding hasKeys hasArea entryAt
-keys-area l b c x t small less p q = ap (both (used (entryAt c (slotOffset l t)))) (keys-same b c x (slotOffset l t) small less p q)
+-- equal areas have equal keys
+pub same-keys : (b : ℕ → ℕ) (x y : ℕ) → ((k : ℕ) → b k < 256) → tab b x 16 ≡ tab b y 16 → (number 8 b y ≡ number 8 b x) × (number 8 b (y + 8) ≡ number 8 b (x + 8))
+same-keys b x y small e =
+    let k : both (eqb (number 8 b y) (number 8 b x)) (eqb (number 8 b (y + 8)) (number 8 b (x + 8))) ≡ true = keys-same b b x y small small refl refl ∙ rw e (same-refl (tab b y 16)) in
+    let r = both-true (eqb (number 8 b y) (number 8 b x)) (eqb (number 8 b (y + 8)) (number 8 b (x + 8))) k in
+    (eqb-true (number 8 b y) (number 8 b x) (r .0), eqb-true (number 8 b (y + 8)) (number 8 b (x + 8)) (r .1))
 
--- slot t has the keys of slot s exactly if it has its name
-pub keys-name : (l : Layout) (b : ℕ → ℕ) (s t : ℕ) {low high : ℕ} {r : Bool} → ((k : ℕ) → b k < 256) → low ≡ number 8 b (slotOffset l s) → high ≡ number 8 b (slotOffset l s + 8)
-    → r ≡ hasKeys l b t low high → r ≡ hasNameOf l (viewOf l b) s t
-unfolding hasArea hasNameOf entryAt
-keys-name l b s t small p q e = e ∙ keys-area l b b (slotOffset l s) t small small p q
+-- a slot has the keys of 16 bytes and a type exactly if these are its name's area and its type
+pub keys-area : (l : Layout) (b c : ℕ → ℕ) (x t type : ℕ) {low high : ℕ} → ((k : ℕ) → b k < 256) → ((k : ℕ) → c k < 256) → low ≡ number 8 b x → high ≡ number 8 b (x + 8)
+    → hasKeys l c t low high type ≡ hasName (tab b x 16) type (viewOf l c .entry t)
+unfolding hasKeys hasName entryAt
+keys-area l b c x t type small less p q = ap (λ (r : Bool). both r (eqb type (c (slotOffset l t + 16)))) (keys-same b c x (slotOffset l t) small less p q)
+
+-- slot t has the keys and the type of slot s exactly if it has its name and type
+pub keys-name : (l : Layout) (b : ℕ → ℕ) (s t : ℕ) {low high type : ℕ} {r : Bool} → ((k : ℕ) → b k < 256) → low ≡ number 8 b (slotOffset l s) → high ≡ number 8 b (slotOffset l s + 8)
+    → type ≡ viewOf l b .entry s .type → r ≡ hasKeys l b t low high type → r ≡ hasNameOf l (viewOf l b) s t
+unfolding hasNameOf entryAt
+keys-name l b s t {type = type} small p q y e =
+    e ∙ keys-area l b b (slotOffset l s) t type small small p q ∙ ap (λ (n : ℕ). hasName (tab b (slotOffset l s) 16) n (viewOf l b .entry t)) y

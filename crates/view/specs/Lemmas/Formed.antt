@@ -13,6 +13,16 @@ use Rattle.layout.specs.Right.{LayoutRight}
 use Rattle.names.specs.Names.{legalArea, legalType}
 use Rattle.view.specs.Disk.{Entry, used, formed}
 
+pub type-range : (l : Layout) (type : ℕ) → legalType l type ≡ true → (l .least ≤ type) × (type ≤ l .most)
+unfolding legalType
+type-range l type h =
+    let p = both-true (leb (l .least) type) (leb type (l .most)) h in
+    (leb-true (l .least) type (p .0), leb-true type (l .most) (p .1))
+
+-- 0 is no type
+pub type-some : (l : Layout) → LayoutRight l → (type : ℕ) → legalType l type ≡ true → type ≡ 0 → ⊥
+type-some l right type h z = omega (arith, right .type-some, type-range l type h .0)
+
 pub record Form (l : Layout) (e : Entry) : Type 0 where
   pub area : legalArea l (e .area) ≡ true
   pub type : legalType l (e .type) ≡ true
@@ -38,13 +48,6 @@ module _ (l : Layout) (e : Entry) where
       true-both (legalArea l (e .area)) _ (f .area)
       (true-both (legalType l (e .type)) _ (f .type) (true-both (leb 1 (e .size)) own? (le-leb 1 (e .size) (f .size)) (eq-eqb (e .identity) (l .identity) (f .own))))
 
-  pub type-range : legalType l (e .type) ≡ true → (l .least ≤ e .type) × (e .type ≤ l .most)
-  unfolding legalType
-  type-range h =
-      let p = both-true (leb (l .least) (e .type)) (leb (e .type) (l .most)) h in
-      (leb-true (l .least) (e .type) (p .0), leb-true (e .type) (l .most) (p .1))
-
-  -- 0 is no type
   pub formed-used : LayoutRight l → formed l e ≡ true → used e ≡ true
   unfolding used
-  formed-used right h = ap not (ne-eqb (e .type) 0 (λ z. omega (arith, right .type-some, type-range (formed-parts h .type) .0)))
+  formed-used right h = ap not (ne-eqb (e .type) 0 (type-some l right (e .type) (formed-parts h .type)))

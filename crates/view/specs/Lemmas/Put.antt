@@ -1,10 +1,10 @@
 -- An entry written to an empty slot, with its content in free blocks: the disk stays valid, that slot's file is new, and every other stays.
 -- Chains of files have no free block, so none has a block that is written; the new blocks read back as the new chain. Assumes nothing.
 use mathlib.Core.Path.{_≡_, refl, sym, ap, _∙_}
-use mathlib.Core.Bool.{true, false, not}
+use mathlib.Core.Bool.{true, false}
 use mathlib.Core.List.{List, [], _∷_}
 use mathlib.Core.Option.{some}
-use Prim.Native.Nat.{ℕ, suc, _≤_, _<_}
+use Prim.Native.Nat.{ℕ, suc, _<_}
 use native.Mathlib.Decide.{ℕ-discrete}
 use native.Mathlib.Omega.{arith}
 use lib.ListN.{length, take}
@@ -17,8 +17,9 @@ use Rattle.blocks.specs.Blocks.{linksFor, readBlocks}
 use Rattle.names.specs.Names.{nameOf}
 use Rattle.map.specs.Map.{Data, Chained, firstOr}
 use Rattle.map.specs.Lemmas.Chains.{Linked, linked-chain, linked-chained}
-use Rattle.view.specs.Disk.{Entry, View, used, formed, entryChain, contentOf, fileOf, Used, Owns, Valid}
+use Rattle.view.specs.Disk.{Entry, View, used, formed, entryChain, contentOf, fileOf, Namesakes, Used, Owns, Valid}
 use Rattle.view.specs.Lemmas.Formed.{formed-used}
+use Rattle.view.specs.Lemmas.Namesakes.{namesakes-back, namesakes-kept}
 use Rattle.view.specs.Lemmas.Kept.{Kept, kept-chained, file-kept, used-back, owns-back, owns-on, owned-data, owned-taken}
 
 -- an entry, blocks and content that may be put into slot s
@@ -26,7 +27,7 @@ pub record Fresh (l : Layout) (v : View) (s : ℕ) (e : Entry) (bs content : Lis
   pub slot : s < l .slots
   pub empty : used (v .entry s) ≡ false
   pub form : formed l e ≡ true
-  pub new : (t : ℕ) → Used l v t → v .entry t .area ≡ e .area → ⊥
+  pub new : (t : ℕ) → Used l v t → Namesakes (v .entry t) e → ⊥
   pub size : e .size ≡ length content
   pub enough : length bs ≡ suc (linksFor (e .size))
   pub start : e .start ≡ firstOr bs 0
@@ -89,17 +90,11 @@ module _ (l : Layout) (right : LayoutRight l) (v w : View) (s : ℕ) (e : Entry)
   legal-by t (yes p) u = rw (at-s t p) (fresh .form)
   legal-by t (no n) u = rw (stored .kept t (u .0) n) (valid .legal t (was t n u))
 
-  name-kept : (t : ℕ) → (t ≡ s → ⊥) → Used l w t → w .entry t .area ≡ v .entry t .area
-  name-kept t n u = ap (λ (x : Entry). x .area) (stored .kept t (u .0) n)
-
-  name-new : (t : ℕ) → t ≡ s → w .entry t .area ≡ e .area
-  name-new t p = ap (λ (x : Entry). x .area) (at-s t p)
-
-  single-by : (t q : ℕ) → Dec (t ≡ s) → Dec (q ≡ s) → Used l w t → Used l w q → w .entry t .area ≡ w .entry q .area → t ≡ q
+  single-by : (t q : ℕ) → Dec (t ≡ s) → Dec (q ≡ s) → Used l w t → Used l w q → Namesakes (w .entry t) (w .entry q) → t ≡ q
   single-by t q (yes a) (yes b) u x h = a ∙ sym b
-  single-by t q (yes a) (no b) u x h = absurd (fresh .new q (was q b x) (sym (name-kept q b x) ∙ sym h ∙ name-new t a))
-  single-by t q (no a) (yes b) u x h = absurd (fresh .new t (was t a u) (sym (name-kept t a u) ∙ h ∙ name-new q b))
-  single-by t q (no a) (no b) u x h = valid .single t q (was t a u) (was q b x) (sym (name-kept t a u) ∙ h ∙ name-kept q b x)
+  single-by t q (yes a) (no b) u x h = absurd (fresh .new q (was q b x) (namesakes-kept (stored .kept q (x .0) b) (at-s t a) (namesakes-back (w .entry t) (w .entry q) h)))
+  single-by t q (no a) (yes b) u x h = absurd (fresh .new t (was t a u) (namesakes-kept (stored .kept t (u .0) a) (at-s q b) h))
+  single-by t q (no a) (no b) u x h = valid .single t q (was t a u) (was q b x) (namesakes-kept (stored .kept t (u .0) a) (stored .kept q (x .0) b) h)
 
   linked-by : (t : ℕ) → Dec (t ≡ s) → Used l w t → Chained l (w .map) (linksFor (w .entry t .size)) (w .entry t .start)
   linked-by t (yes p) u = rw (at-s t p) (new-chained l (w .map) e bs (fresh .enough) (fresh .start) (stored .linked) (fresh .inside))

@@ -1,6 +1,6 @@
 -- A slot cleared and its blocks freed: the disk stays valid, that slot's file goes, and every other stays.
 -- Other chains have none of the freed blocks, since no block is on two chains. Assumes nothing.
-use mathlib.Core.Path.{_≡_, refl, sym, ap, _∙_, subst}
+use mathlib.Core.Path.{_≡_, refl, _∙_, subst}
 use mathlib.Core.Bool.{false}
 use mathlib.Core.Option.{none}
 use Prim.Native.Nat.{ℕ, _<_}
@@ -10,7 +10,8 @@ use Rattle.laws.specs.Member.{In}
 use Rattle.layout.specs.declared.Layout.{Layout}
 use Rattle.layout.specs.Right.{LayoutRight}
 use Rattle.map.specs.Map.{Data}
-use Rattle.view.specs.Disk.{Entry, View, used, entryChain, fileOf, Used, Owns, Valid}
+use Rattle.view.specs.Disk.{View, used, entryChain, fileOf, Used, Owns, Valid}
+use Rattle.view.specs.Lemmas.Namesakes.{namesakes-kept}
 use Rattle.view.specs.Lemmas.Kept.{Kept, kept-chained, file-kept, used-back, owns-back, owns-on, owned-data}
 
 -- w is v with slot s cleared and its blocks freed
@@ -63,7 +64,7 @@ module _ (l : Layout) (right : LayoutRight l) (v w : View) (s : ℕ) (valid : Va
     system = system;
     legal = λ t u. rw (kept-of t u .entry) (valid .legal t (was t u));
     single = λ t q u x e.
-        valid .single t q (was t u) (was q x) (sym (ap (λ (e : Entry). e .area) (kept-of t u .entry)) ∙ e ∙ ap (λ (e : Entry). e .area) (kept-of q x .entry));
+        valid .single t q (was t u) (was q x) (namesakes-kept (kept-of t u .entry) (kept-of q x .entry) e);
     linked = λ t u. kept-chained l v w t (kept-of t u) (valid .linked t (was t u));
     apart = λ t q b o p. valid .apart t q b (was-owned t b o) (was-owned q b p);
     owner = owner-of;
