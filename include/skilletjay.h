@@ -14,6 +14,8 @@
  * A disk is an S900's or an S1000's, of low density or high, or an S3000's (byte 16 of the image is 255), of high density alone. Its directory has 64
  * slots, an S3000's 512; they count from 0. A type is the byte on the disk: A to Z (S900), a to z (S1000), 193 to 218 (S3000), which is A to Z with 128
  * added: there 211 is S, and 83 is no type.
+ *
+ * A file is known by its name and its type together: names need differ only within one type, so that PIANO may be a sample and a program on one disk.
  */
 #ifndef SKILLETJAY_H
 #define SKILLETJAY_H
@@ -22,9 +24,9 @@
 #include <stddef.h>
 #include <stdint.h>
 
-#define SJ_VERSION "0.5.0"
+#define SJ_VERSION "0.6.0"
 #define SJ_VERSION_MAJOR 0
-#define SJ_VERSION_MINOR 5
+#define SJ_VERSION_MINOR 6
 #define SJ_VERSION_PATCH 0
 
 #ifdef __cplusplus
@@ -40,16 +42,16 @@ typedef enum {
     SJ_UNKNOWN_KIND = 2,   /* the directory's identities are of no kind, or it is an S3000's on an image of low density */
     SJ_SYSTEM_BLOCK = 3,   /* not marked as one in the map of an S1000 or S3000 disk; place: the block */
     SJ_MALFORMED_SLOT = 4, /* name, type or length of a used slot, on an S3000 disk its identity too; place: the slot */
-    SJ_NAME_TWICE = 5,     /* place: the higher slot */
+    SJ_NAME_TWICE = 5,     /* within one type; place: the higher slot */
     SJ_CHAIN_ASTRAY = 6,   /* a file's chain leaves the data area; place: the slot */
     SJ_CHAIN_LENGTH = 7,   /* a file's chain is shorter or longer than the file; place: the slot */
     SJ_SHARED_BLOCK = 8,   /* a block on two chains; place: the higher slot */
     SJ_STRAY_BLOCK = 9,    /* marked as used, and on no file's chain; place: the block */
 
     /* of the call */
-    SJ_NO_SUCH_FILE = 10,    /* or the slot is empty, or there is no such slot: above 63, on an S3000 disk above 511 */
-    SJ_NAME_OR_TYPE = 11,    /* not legal on this disk */
-    SJ_NAME_IN_USE = 12,     /* place: the slot of the file that has it */
+    SJ_NO_SUCH_FILE = 10,    /* of that name and type; or the slot is empty, or there is none: above 63, on an S3000 disk above 511 */
+    SJ_NAME_OR_TYPE = 11,    /* one of them isn't legal on this disk */
+    SJ_NAME_IN_USE = 12,     /* a file has the name and the type; place: its slot */
     SJ_NO_CONTENT = 13,      /* a content of 0 bytes */
     SJ_NO_SLOT = 14,         /* all are used: 64, on an S3000 disk 512 */
     SJ_NO_ROOM = 15,         /* the content needs more blocks than are free */
@@ -115,10 +117,11 @@ sj_checked sj_check(const uint8_t *image, size_t image_len);
  * capitals, however it was typed. The image is lent and kept. */
 sj_listed sj_list(const uint8_t *image, size_t image_len, size_t slot);
 
-/* The slot of the file with a name, in ASCII and of its exact length, 10 bytes (S900) or 12 (S1000, S3000), padded with spaces: refusals 1 to 9,
- * then 11, then 10. On S1000 and S3000 disks a to z in a name are taken as A to Z, here and in sj_put and sj_remove; S900 names keep their
- * case. Image and name are lent and kept. */
-sj_found sj_find(const uint8_t *image, size_t image_len, const uint8_t *name, size_t name_len);
+/* The slot of the file with a name and a type. The name is in ASCII and of its exact length, 10 bytes (S900) or 12 (S1000, S3000), padded with
+ * spaces; the type is the byte itself: A to Z (S900), a to z (S1000), 193 to 218 (S3000). Refusals 1 to 9, then 11 if the name or the type isn't
+ * legal, then 10 if no file has both. On S1000 and S3000 disks a to z in a name are taken as A to Z, here and in sj_put and sj_remove; S900 names
+ * keep their case. Image and name are lent and kept. */
+sj_found sj_find(const uint8_t *image, size_t image_len, const uint8_t *name, size_t name_len, uint8_t type);
 
 /* The file's bytes from an offset on: as many as the output holds and the file has left are written to the output's front. The
  * output's other bytes are kept, and all of them on a refusal: 1 to 9, then 10, then 17. At the offset that is the file's length
@@ -133,23 +136,23 @@ sj_paged sj_page(const uint8_t *image, size_t image_len, size_t slot, size_t off
  * pages of a file fetch its blocks too, 1,024 bytes each at 1,024 times its number, and no others. Every answer is that on the whole image. */
 sj_counted sj_blocks(const uint8_t *image, size_t image_len, size_t slot, uint16_t *blocks, size_t blocks_len);
 
-/* Puts a file: the lowest empty slot, the lowest free blocks in rising order, zeros after the content in its last block. The name is as for
- * sj_find, and an S1000 or S3000 disk keeps it in capitals: two spellings that differ in case alone are one name there, 12. The type is the byte
- * itself: A to Z (S900), a to z (S1000), 193 to 218 (S3000). The slot's 24 bytes are written whole, on an S3000 disk with an identity that an empty slot
- * need not have had. Refusals 1 to 9, then 11, 13, 12, 14, 15, 16. Name and content are lent and kept; so is the image on a refusal. On 16: 15 is asked
- * first, so it is never given. */
+/* Puts a file: the lowest empty slot, the lowest free blocks in rising order, zeros after the content in its last block. Name and type are as for
+ * sj_find. An S1000 or S3000 disk keeps the name in capitals: two spellings that differ in case alone are one name there. The slot's 24 bytes are
+ * written whole, on an S3000 disk with an identity that an empty slot need not have had. Refusals 1 to 9, then 11, 13, 12 if a file has that name and
+ * that type, 14, 15, 16. Name and content are lent and kept; so is the image on a refusal. On 16: 15 is asked first, so it is never given. */
 sj_found sj_put(uint8_t *image, size_t image_len, const uint8_t *name, size_t name_len, uint8_t type, const uint8_t *content, size_t content_len);
 
-/* Removes the file with a name, which is as for sj_find: its slot becomes zeros but for the identity, its blocks free; data bytes stay. Refusals
- * 1 to 9, then 11, then 10. The name is lent and kept; so is the image on a refusal. */
-sj_done sj_remove(uint8_t *image, size_t image_len, const uint8_t *name, size_t name_len);
+/* Removes the file with a name and a type, which are as for sj_find: its slot becomes zeros but for the identity, its blocks free; data bytes
+ * stay, and so does a file of that name and another type. Refusals 1 to 9, then 11, then 10. The name is lent and kept; so is the image on a
+ * refusal. */
+sj_done sj_remove(uint8_t *image, size_t image_len, const uint8_t *name, size_t name_len, uint8_t type);
 
 /* Mends an image in place and says slot by slot what was lost: refusals 1 and 2, then 21 for a report of fewer bytes than the disk has slots (64, on an
  * S3000 disk 512: as many do for every kind), and none else. Slots are taken in rising order. Each slot's byte of the report becomes 0 for an empty
  * slot, 1 for one that is kept, else the number that it is dropped for, the first that applies: SJ_MALFORMED_SLOT, SJ_NAME_TWICE if a kept lower slot has
- * its name, SJ_CHAIN_ASTRAY or SJ_CHAIN_LENGTH by the map as given, SJ_SHARED_BLOCK if a kept lower slot's chain has one of its blocks. A dropped slot's
- * bytes become those that sj_remove leaves; then the map values of data blocks on no kept chain become 0, those of system blocks 16,384 (S1000: the
- * first 4 or 5, S3000: the first 17). Gives how many map values are others than before. No data byte changes.
+ * its name and type, SJ_CHAIN_ASTRAY or SJ_CHAIN_LENGTH by the map as given, SJ_SHARED_BLOCK if a kept lower slot's chain has one of its blocks. A
+ * dropped slot's bytes become those that sj_remove leaves; then the map values of data blocks on no kept chain become 0, those of system blocks 16,384
+ * (S1000: the first 4 or 5, S3000: the first 17). Gives how many map values are others than before. No data byte changes.
  *
  * The image is accepted afterwards, and what is kept reads as its own chain says; an accepted image comes back as it was, with a count of 0. The
  * report's other bytes are kept; on a refusal all of them are, and the image too. */
@@ -159,7 +162,7 @@ sj_counted sj_salvage(uint8_t *image, size_t image_len, uint8_t *report, size_t 
  * that is no call, or where the output has no part left. Each entry is 20 bytes, numbers least significant byte first:
  *
  *   byte 0   0 list, 1 page, 2 find, 3 remove, 4 put; more is no call
- *   byte 1   put: the type
+ *   byte 1   find, remove, put: the type
  *   4 to 7   list, page: the slot; the others: the name's offset in the pool
  *   8 to 11  page: the offset; find, remove, put: the name's length
  *   12 to 15 put: the content's offset in the pool; 16 to 19 its length (a name or content outside the pool is no call)

@@ -11,15 +11,9 @@ typedef struct {
 
 /* ---- calls by a name that is padded to the kind's length */
 
-static uint8_t *padded(const shape *s, const char *name) {
-    char whole[13];
-    snprintf(whole, sizeof whole, "%-*s", s->letters, name);
-    return at_edge(1, whole, (size_t)s->letters);
-}
-
 static bool gives(sj_found f, uint32_t refusal, size_t place, size_t slot) { return f.refusal == refusal && f.place == place && f.slot == slot; }
 
-static sj_found find(const disk *d, const char *name) { return sj_find(d->image, d->n, padded(d->s, name), (size_t)d->s->letters); }
+static sj_found find(const disk *d, const char *name) { return sj_find(d->image, d->n, padded(d->s, name), (size_t)d->s->letters, d->s->type); }
 
 /* Puts a content of one byte. */
 static sj_found put(disk *d, const char *name, uint8_t content) {
@@ -27,7 +21,7 @@ static sj_found put(disk *d, const char *name, uint8_t content) {
 }
 
 static uint32_t take_away(disk *d, const char *name) {
-    sj_done r = sj_remove(d->image, d->n, padded(d->s, name), (size_t)d->s->letters);
+    sj_done r = sj_remove(d->image, d->n, padded(d->s, name), (size_t)d->s->letters, d->s->type);
     CHECK(r.place == 0);
     return r.refusal;
 }
@@ -115,7 +109,7 @@ static int code(const shape *s, int c) {
 /* Legal characters are stored as their codes; all others, such as those next to the letters, are refused by 11, and the image is kept. */
 static void every_byte(disk *d) {
     size_t n = (size_t)d->s->letters;
-    const uint8_t one = 1, *e = d->image + d->s->directory;
+    const uint8_t one = 1, type = d->s->type, *e = d->image + d->s->directory;
     CHECK(d->s->kind == 900 || (code(d->s, 64) < 0 && code(d->s, 91) < 0 && code(d->s, 96) < 0 && code(d->s, 123) < 0));
     memcpy(d->before, d->image, HEAD);
     for (size_t at = 0; at < n; at++)
@@ -123,10 +117,10 @@ static void every_byte(disk *d) {
             uint8_t *name = padded(d->s, "NAME");
             int due = code(d->s, c);
             name[at] = (uint8_t)c;
-            CHECK(gives(sj_find(d->image, d->n, name, n), due < 0 ? 11 : 10, 0, 0));
-            CHECK(gives(sj_put(d->image, d->n, name, n, d->s->type, &one, 1), due < 0 ? 11 : 0, 0, 0));
-            CHECK(name[at] == c && (due < 0 || (e[at] == due && gives(sj_find(d->image, d->n, name, n), 0, 0, 0))));
-            CHECK(sj_remove(d->image, d->n, name, n).refusal == (due < 0 ? 11u : 0u));
+            CHECK(gives(sj_find(d->image, d->n, name, n, type), due < 0 ? 11 : 10, 0, 0));
+            CHECK(gives(sj_put(d->image, d->n, name, n, type, &one, 1), due < 0 ? 11 : 0, 0, 0));
+            CHECK(name[at] == c && (due < 0 || (e[at] == due && gives(sj_find(d->image, d->n, name, n, type), 0, 0, 0))));
+            CHECK(sj_remove(d->image, d->n, name, n, type).refusal == (due < 0 ? 11u : 0u));
             CHECK(memcmp(d->before, d->image, HEAD) == 0);
         }
 }

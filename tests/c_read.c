@@ -23,21 +23,36 @@ static void list_slot(const volume *v, size_t slot) {
         snprintf((char *)name, sizeof name, "%-*s", v->s->letters, FILE_NAMES[slot / apart]);
     CHECK(l.refusal == (there ? 0u : 10u) && l.place == 0);
     CHECK(l.length == (there ? FILE_LENGTHS[slot / apart] : 0) && memcmp(l.name, name, 12) == 0);
-    CHECK(l.type == (there ? v->s->type : 0));
+    CHECK(l.type == (there ? type_of_file(v->s, (int)(slot / apart)) : 0));
 }
 
 /* A file's name is found at its own length and at no other; a sign in it is legal or not by the kind. */
 static void find_file(const volume *v, int f) {
     char name[14];
     size_t letters = (size_t)v->s->letters;
+    uint8_t type = type_of_file(v->s, f);
     snprintf(name, sizeof name, "%-13s", FILE_NAMES[f]);
     for (size_t length = 0; length <= 13; length++) {
-        sj_found found = sj_find(v->image, v->n, at_edge(1, name, length), length);
+        sj_found found = sj_find(v->image, v->n, at_edge(1, name, length), length, type);
         CHECK(found.refusal == (length == letters ? 0u : 11u) && found.place == 0);
         CHECK(found.slot == (length == letters ? file_slot(v, f) : 0));
     }
     name[0] = '!';
-    CHECK(sj_find(v->image, v->n, at_edge(1, name, letters), letters).refusal == (v->s->kind == 900 ? 10u : 11u));
+    CHECK(sj_find(v->image, v->n, at_edge(1, name, letters), letters, type).refusal == (v->s->kind == 900 ? 10u : 11u));
+}
+
+/* A file's name is found in the types of the files that have it, each in its own slot; every other legal type is 10, every other byte 11. */
+static void find_types(const volume *v, int f) {
+    char name[13];
+    size_t letters = (size_t)snprintf(name, sizeof name, "%-*s", v->s->letters, FILE_NAMES[f]);
+    for (int type = 0; type < 256; type++) {
+        sj_found due = {.refusal = legal_type(v->s, (uint8_t)type) ? 10 : 11};
+        for (int g = 0; g < FILES; g++)
+            if (strcmp(FILE_NAMES[g], FILE_NAMES[f]) == 0 && type_of_file(v->s, g) == type)
+                due = (sj_found){.slot = file_slot(v, g)};
+        sj_found found = sj_find(v->image, v->n, at_edge(1, name, letters), letters, (uint8_t)type);
+        CHECK(found.refusal == due.refusal && found.place == 0 && found.slot == due.slot);
+    }
 }
 
 /* A page of a file to an output that ends at a page which traps: the bytes that are due, the rest kept, the end where the file ends. */
@@ -189,6 +204,7 @@ static void whole_disk(const volume *v) {
     list_slot(v, SIZE_MAX - 1);
     for (int f = 0; f < FILES; f++) {
         find_file(v, f);
+        find_types(v, f);
         file_blocks(v, f);
         own_blocks(v, f);
         page_limits(v, f);
@@ -199,7 +215,7 @@ static void whole_disk(const volume *v) {
     }
     for (size_t z = 2; z < sizeof sizes / sizeof *sizes; z++)
         downloads_in_turn(v, sizes[z]);
-    sj_found none = sj_find(v->image, v->n, NULL, 0);
+    sj_found none = sj_find(v->image, v->n, NULL, 0, v->s->type);
     CHECK(none.refusal == 11 && none.place == 0 && none.slot == 0);
     CHECK(sj_page(v->image, v->n, 1, 0, out, 1).refusal == 10 && out[0] == 9);
     CHECK(sj_page(v->image, v->n, SIZE_MAX, SIZE_MAX, out, 1).refusal == 10 && out[0] == 9);
@@ -208,8 +224,22 @@ static void whole_disk(const volume *v) {
 
 /* ---- every reading call on any bytes */
 
-/* An accepted image: as many slots list as the check counted, each name is found in its slot, each file ends at its length and has the
- * blocks that it needs, and these and the free ones make the data area. */
+/* A name that is there, in any type: what is found has both, and an illegal type is 11. */
+static void find_other(const uint8_t *image, size_t n, const sj_listed *l, size_t letters) {
+    uint8_t type = (uint8_t)(l->type + next_random() % 4 - next_random() % 4);
+    uint8_t first = letters == 10 ? 'A' : l->type < 128 ? 'a' : 193;
+    sj_found f = sj_find(image, n, at_edge(1, l->name, letters), letters, type);
+    CHECK(f.place == 0 && (f.refusal == 11) == (type < first || type > first + 25));
+    if (f.refusal == 0) {
+        sj_listed other = sj_list(image, n, f.slot);
+        CHECK(other.refusal == 0 && other.type == type && memcmp(other.name, l->name, 12) == 0);
+    } else {
+        CHECK((f.refusal == 10 || f.refusal == 11) && f.slot == 0 && type != l->type);
+    }
+}
+
+/* An accepted image: as many slots list as the check counted, each name is found by its type in its slot, each file ends at its length and has
+ * the blocks that it needs, and these and the free ones make the data area. */
 static void read_accepted(const uint8_t *image, size_t n, const sj_checked *c) {
     size_t files = 0, blocks = 0, letters = c->kind == 900 ? 10 : 12, slots = c->kind == 3000 ? 512 : 64;
     uint16_t own[1600];
@@ -222,8 +252,9 @@ static void read_accepted(const uint8_t *image, size_t n, const sj_checked *c) {
         sj_counted held = sj_blocks(image, n, slot, own, 1600);
         CHECK(held.refusal == 0 && held.count == blocks_for(l.length));
         blocks += held.count;
-        sj_found f = sj_find(image, n, at_edge(1, l.name, letters), letters);
+        sj_found f = sj_find(image, n, at_edge(1, l.name, letters), letters, l.type);
         CHECK(f.refusal == 0 && f.slot == slot);
+        find_other(image, n, &l, letters);
         CHECK(sj_page(image, n, slot, l.length, NULL, 0).end && !sj_page(image, n, slot, 0, NULL, 0).end);
     }
     CHECK(files == c->files && blocks + c->free == (c->kind == 3000 ? 1583 : c->density ? 1595 : 796));
@@ -246,8 +277,8 @@ static void read_refused(const uint8_t *image, size_t n, const sj_checked *c) {
     sj_listed l = sj_list(image, n, slot);
     CHECK(l.refusal == c->refusal && l.place == c->place && l.type == 0 && l.length == 0 && memcmp(l.name, nothing, 12) == 0);
     snprintf(name, sizeof name, "%-13s", FILE_NAMES[next_random() % FILES]);
-    same_found(sj_find(image, n, at_edge(1, name, named), named), c);
-    same_found(sj_find(image, n, NULL, 0), c);
+    same_found(sj_find(image, n, at_edge(1, name, named), named, random_type(&SHAPES[next_random() % KINDS])), c);
+    same_found(sj_find(image, n, NULL, 0, 0), c);
     uint8_t *out = edge(0, room);
     memset(out, 7, room);
     same_paged(sj_page(image, n, slot, offset, out, room), c);
@@ -298,16 +329,19 @@ static bool answers(volume *v, uint32_t refusal, size_t place) {
 
 static size_t later(const volume *v, int f, int g) { return file_slot(v, f > g ? f : g); }
 
-/* 5: of two files of one name the later slot is the place, whichever has its own name; their types don't matter, and empty slots have none. */
+/* 5: of two files of one name and type the later slot is the place, whichever has its own. In another type, here one that no file has, the name
+ * is no repetition, and an empty slot has none. */
 static void names_twice(volume *v) {
     for (int f = 0; f < FILES; f++)
         for (int g = 0; g < FILES; g++) {
-            memmove(entry(v, g), entry(v, f), 16);
-            entry(v, g)[16] += (uint8_t)(f % 2);
+            memmove(entry(v, g), entry(v, f), 17);
             CHECK(answers(v, f == g ? 0 : 5, f == g ? 0 : later(v, f, g)));
+            memmove(entry(v, g), entry(v, f), 16);
+            entry(v, g)[16] = first_type(v->s);
+            CHECK(answers(v, 0, 0));
         }
-    memcpy(entry(v, 2), entry(v, 5), 16);
-    memcpy(entry(v, 4), entry(v, 5), 16);
+    memcpy(entry(v, 2), entry(v, 5), 17);
+    memcpy(entry(v, 4), entry(v, 5), 17);
     CHECK(answers(v, 5, file_slot(v, 4)));
     memcpy(v->image + slot_at(v->s, 1), entry(v, 3), 16);
     CHECK(answers(v, 0, 0));
@@ -414,7 +448,7 @@ static size_t make_fault(volume *v, uint32_t number, int f) {
         e[16] = 1;
         break;
     case 5:
-        memcpy(e, entry(v, 0), 16);
+        memcpy(e, entry(v, 0), 17);
         break;
     case 6:
         set_start(e, 0);

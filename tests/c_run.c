@@ -27,7 +27,7 @@ static void make_entry(const shape *s, uint8_t *e) {
     for (int i = 0; i < ENTRY; i++)
         e[i] = (uint8_t)next_random();
     e[0] = r % 97 == 0 ? (uint8_t)(5 + r % 251) : (uint8_t)(r % 5);
-    e[1] = (uint8_t)(first_type(s) + next_random() % 27);
+    e[1] = random_type(s);
     if (e[0] < 2) {
         set_number(e + 4, 4, next_random() % 30 ? next_random() % 8 : 505 + next_random() % 8);
         set_number(e + 8, 4, next_random() % 3 ? 0 : next_random() % 4000);
@@ -67,10 +67,10 @@ static bool make_call(uint8_t *image, size_t n, const uint8_t *e, uint8_t *part)
         sj_paged p = sj_page(image, n, a, b, part + ENTRY, PAGE);
         reply(part, p.refusal, p.refusal ? p.place : p.count, 0, p.end, NULL);
     } else if (e[0] == 3) {
-        sj_done r = sj_remove(image, n, pool + a, b);
+        sj_done r = sj_remove(image, n, pool + a, b, e[1]);
         reply(part, r.refusal, r.place, 0, false, NULL);
     } else {
-        sj_found f = e[0] == 2 ? sj_find(image, n, pool + a, b) : sj_put(image, n, pool + a, b, e[1], pool + c, d);
+        sj_found f = e[0] == 2 ? sj_find(image, n, pool + a, b, e[1]) : sj_put(image, n, pool + a, b, e[1], pool + c, d);
         reply(part, f.refusal, f.refusal ? f.place : f.slot, 0, false, NULL);
     }
     return true;

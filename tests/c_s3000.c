@@ -29,7 +29,7 @@ static void refused(uint8_t *of, size_t n, uint32_t number, size_t place) {
     CHECK(c.refusal == number && c.place == place && c.kind == 0 && c.density == 0 && c.files == 0 && c.free == 0);
     sj_listed l = sj_list(of, n, 0);
     CHECK(l.refusal == number && l.place == place);
-    sj_found f = sj_find(of, n, name, 12);
+    sj_found f = sj_find(of, n, name, 12, 211);
     CHECK(f.refusal == number && f.place == place);
     f = sj_put(of, n, name, 12, 211, content, 1);
     CHECK(f.refusal == number && f.place == place);
@@ -37,7 +37,7 @@ static void refused(uint8_t *of, size_t n, uint32_t number, size_t place) {
     CHECK(p.refusal == number && p.place == place && out[0] == 9);
     sj_counted b = sj_blocks(of, n, 0, blocks, 2);
     CHECK(b.refusal == number && b.place == place && blocks[0] == 9);
-    sj_done r = sj_remove(of, n, name, 12);
+    sj_done r = sj_remove(of, n, name, 12, 211);
     CHECK(r.refusal == number && r.place == place);
 }
 
@@ -155,7 +155,7 @@ static void head_only(void) {
     const uint8_t *head = memcpy(at + pages - DATA, image, DATA);
     uint16_t block = 0;
     CHECK(sj_check(head, N).files == 1 && sj_list(head, N, 511).length == 1 && sj_list(head, N, 0).refusal == 10);
-    CHECK(sj_find(head, N, (const uint8_t *)"last        ", 12).slot == 511);
+    CHECK(sj_find(head, N, (const uint8_t *)"last        ", 12, 211).slot == 511);
     CHECK(sj_blocks(head, N, 511, &block, 1).count == 1 && block == 1599);
     size_t from = (pages - DATA + last) / 4096 * 4096;
     CHECK(mprotect(at + from, 8192, PROT_READ | PROT_WRITE) == 0);
@@ -225,6 +225,8 @@ static void order_of_rules(void) {
     memcpy(image, due, HEAD);
     memcpy(entry(image, 511), entry(image, 70), 16);
     refused(image, N, 5, 511);
+    entry(image, 511)[16] = 208; /* the name in another type */
+    accepted(2, FREE - 2);
     memcpy(image, due, HEAD);
     memcpy(entry(image, 511) + 20, entry(image, 70) + 20, 2);
     refused(image, N, 8, 511);
@@ -271,7 +273,7 @@ static void put_and_remove(void) {
     same_image();
     sj_listed l = sj_list(image, N, 0);
     CHECK(l.refusal == 0 && l.type == 211 && l.length == 1025 && memcmp(l.name, "BASS C2     ", 12) == 0);
-    CHECK(sj_remove(image, N, (const uint8_t *)"bass C2     ", 12).refusal == 0);
+    CHECK(sj_remove(image, N, (const uint8_t *)"bass C2     ", 12, 211).refusal == 0);
     memset(entry(due, 0), 0, 22);
     set_value(due, 17, 0);
     set_value(due, 18, 0);
@@ -283,15 +285,17 @@ static void put_and_remove(void) {
     accepted(2, FREE - 2);
 }
 
-/* The type is the byte itself: 83 isn't 211. No illegal type or name is put, and nothing changes. */
+/* The type is the byte itself: 83 isn't 211. No illegal type or name is put, found or removed, and nothing changes. */
 static void types(void) {
+    const uint8_t *name = (const uint8_t *)"type        ";
     make_disk();
     for (int type = 0; type < 256; type++) {
         sj_found f = put("TYPE        ", (uint8_t)type, 1);
         bool legal = type >= 193 && type <= 218;
         CHECK(f.refusal == (legal ? 0u : 11u) && f.place == 0 && f.slot == 0);
         CHECK(!legal || sj_list(image, N, 0).type == type);
-        CHECK(!legal || sj_remove(image, N, (const uint8_t *)"type        ", 12).refusal == 0);
+        CHECK(sj_find(image, N, name, 12, (uint8_t)type).refusal == (legal ? 0u : 11u));
+        CHECK(sj_remove(image, N, name, 12, (uint8_t)type).refusal == (legal ? 0u : 11u));
         if (!legal)
             CHECK(sj_check(image, N).files == 0);
     }
@@ -322,20 +326,24 @@ static void whole_data_area(void) {
 
 static void name_of(int slot, char *name) { snprintf(name, 13, "FILE %-7u", (unsigned)slot % ALL); }
 
-/* Fills every slot in rising order; the next put is refused by 14, one of a name that is there by 12. */
+static uint8_t type_of(int slot) { return (uint8_t)(193 + slot % 26); }
+
+/* Fills every slot in rising order; the next put is refused by 14, one of a name that is there in its type by 12. */
 static void fill_slots(void) {
     char name[13];
     make_disk();
     for (int slot = 0; slot < ALL; slot++) {
         name_of(slot, name);
-        CHECK(put(name, (uint8_t)(193 + slot % 26), 1 + (size_t)slot).slot == (size_t)slot);
+        CHECK(put(name, type_of(slot), 1 + (size_t)slot).slot == (size_t)slot);
     }
     accepted(ALL, FREE - ALL);
     memcpy(due, image, N);
     sj_found f = put("ONE MORE    ", 211, 1);
     CHECK(f.refusal == 14 && f.place == 0 && f.slot == 0);
-    f = put("file 511    ", 211, 1);
+    f = put("file 511    ", type_of(511), 1);
     CHECK(f.refusal == 12 && f.place == 511 && f.slot == 0);
+    f = put("file 511    ", type_of(512), 1);
+    CHECK(f.refusal == 14 && f.place == 0 && f.slot == 0);
     same_image();
 }
 
@@ -348,8 +356,8 @@ static void read_slots(void) {
     for (int slot = 0; slot < ALL; slot++) {
         name_of(slot, name);
         sj_listed l = sj_list(image, N, (size_t)slot);
-        CHECK(l.refusal == 0 && memcmp(l.name, name, 12) == 0 && l.type == 193 + slot % 26 && l.length == 1 + (size_t)slot);
-        CHECK(sj_find(image, N, at_edge(1, name, 12), 12).slot == (size_t)slot);
+        CHECK(l.refusal == 0 && memcmp(l.name, name, 12) == 0 && l.type == type_of(slot) && l.length == 1 + (size_t)slot);
+        CHECK(sj_find(image, N, at_edge(1, name, 12), 12, type_of(slot)).slot == (size_t)slot);
         sj_paged p = sj_page(image, N, (size_t)slot, 0, out, sizeof out);
         CHECK(p.refusal == 0 && p.count == 1 + (size_t)slot && p.end && out[slot] == 0x77);
         CHECK(sj_blocks(image, N, (size_t)slot, &block, 1).count == 1 && block == 17 + slot);
@@ -364,16 +372,17 @@ static void read_slots(void) {
 static void reuse_slots(void) {
     for (int slot = 511; slot > 0; slot -= 255) {
         char name[13];
+        uint8_t type = type_of(slot);
         name_of(slot, name);
-        CHECK(sj_remove(image, N, at_edge(1, name, 12), 12).refusal == 0);
+        CHECK(sj_remove(image, N, at_edge(1, name, 12), 12, type).refusal == 0);
         memset(entry(due, slot), 0, 22);
         set_value(due, 17 + (unsigned)slot, 0);
         same_image();
-        CHECK(sj_list(image, N, (size_t)slot).refusal == 10 && sj_find(image, N, at_edge(1, name, 12), 12).refusal == 10);
+        CHECK(sj_list(image, N, (size_t)slot).refusal == 10 && sj_find(image, N, at_edge(1, name, 12), 12, type).refusal == 10);
         CHECK(put("AGAIN       ", 211, 3).slot == (size_t)slot);
         due_file(slot, "\13\21\13\23\30\12\12\12\12\12\12\12", 211, 3, 17 + (unsigned)slot);
         same_image();
-        CHECK(sj_remove(image, N, (const uint8_t *)"AGAIN       ", 12).refusal == 0 && put(name, 211, 3).slot == (size_t)slot);
+        CHECK(sj_remove(image, N, (const uint8_t *)"AGAIN       ", 12, 211).refusal == 0 && put(name, type, 3).slot == (size_t)slot);
         memcpy(due, image, N);
     }
 }
@@ -396,11 +405,11 @@ static void set_entry(uint8_t *e, int call, int type, size_t a, size_t b, size_t
     set_number(e + 16, d);
 }
 
-/* Put with 211 and with 83, a list of slots 511 and 512, a page, a find and a removal. */
+/* Put with 211 and with 83, a list of slots 511 and 512, a page; a find with 211, 208 and 83, and a removal. */
 static void script(void) {
-    enum { CALLS = 7, PART = 1044 };
+    enum { CALLS = 9, PART = 1044 };
     static const uint8_t pool[] = "Script      content";
-    static const uint8_t replies[CALLS][7] = {{[3] = 255, 1}, {11}, {[3] = 7, [6] = 211}, {10}, {[3] = 7}, {[3] = 255, 1}, {0}};
+    static const uint8_t replies[CALLS][7] = {{[3] = 255, 1}, {11}, {[3] = 7, [6] = 211}, {10}, {[3] = 7}, {[3] = 255, 1}, {10}, {11}, {0}};
     uint8_t entries[20 * CALLS], *out = edge(2, PART * CALLS);
     make_disk();
     for (int slot = 0; slot < ALL; slot++)
@@ -411,8 +420,10 @@ static void script(void) {
     set_entry(entries + 40, 0, 0, 511, 0, 0, 0);
     set_entry(entries + 60, 0, 0, 512, 0, 0, 0);
     set_entry(entries + 80, 1, 0, 511, 0, 0, 0);
-    set_entry(entries + 100, 2, 0, 0, 12, 0, 0);
-    set_entry(entries + 120, 3, 0, 0, 12, 0, 0);
+    set_entry(entries + 100, 2, 211, 0, 12, 0, 0);
+    set_entry(entries + 120, 2, 208, 0, 12, 0, 0);
+    set_entry(entries + 140, 2, 83, 0, 12, 0, 0);
+    set_entry(entries + 160, 3, 211, 0, 12, 0, 0);
     CHECK(sj_run(image, N, at_edge(0, entries, sizeof entries), sizeof entries, at_edge(1, pool, 19), 19, out, PART * CALLS) == CALLS);
     for (int k = 0; k < CALLS; k++)
         CHECK(memcmp(out + PART * k, replies[k], 7) == 0);

@@ -48,7 +48,7 @@ static bool well_formed(const shape *s, const uint8_t *e) {
             return false;
     }
     bool own = s->kind != 3000 || (e[22] == 0 && e[23] == 12);
-    return e[16] >= first_type(s) && e[16] < first_type(s) + 26 && length_of(e) > 0 && own;
+    return legal_type(s, e[16]) && length_of(e) > 0 && own;
 }
 
 /* A slot's blocks by the map of the image, as far as there is room for them; 6 or 7 if its chain has a fault. */
@@ -73,7 +73,7 @@ static uint8_t reason(const wreck *w, int slot, const bool *taken, unsigned chai
     if (!well_formed(w->v.s, e))
         return 4;
     for (int lower = 0; lower < slot; lower++)
-        if (w->report[lower] == 1 && memcmp(w->v.image + slot_at(w->v.s, lower), e, 16) == 0)
+        if (w->report[lower] == 1 && memcmp(w->v.image + slot_at(w->v.s, lower), e, 17) == 0) /* name and type */
             return 5;
     uint8_t fault = walk(&w->v, e, chain);
     for (size_t k = 0; !fault && k < blocks_for(length_of(e)); k++)
@@ -211,14 +211,17 @@ static void malformed(wreck *w) {
     }
 }
 
-/* 5: of two files of one name the later slot is dropped, whichever has its own name, whatever the types. */
+/* 5: of two files of one name and type the later slot is dropped, whichever has its own. In another type, one that no file has, it is kept. */
 static void names_twice(wreck *w) {
     for (int f = 0; f < FILES; f++)
         for (int g = 0; g < FILES; g++)
             if (f != g) {
-                memcpy(entry(&w->v, g), entry(&w->v, f), 16);
-                entry(&w->v, g)[16] += (uint8_t)(f % 2);
+                memcpy(entry(&w->v, g), entry(&w->v, f), 17);
                 loses_file(w, f > g ? f : g, 5);
+                memcpy(entry(&w->v, g), entry(&w->v, f), 16);
+                entry(&w->v, g)[16] = first_type(w->v.s);
+                lose_nothing(w);
+                mends_as_told(w);
             }
 }
 
@@ -335,7 +338,7 @@ static void spoil(wreck *w, int number, int f) {
         e[16] = 1;
         break;
     case 5:
-        memcpy(e, entry(&w->v, 0), 16);
+        memcpy(e, entry(&w->v, 0), 17);
         break;
     case 6:
         set_start(e, 0);
@@ -367,14 +370,14 @@ static void two_at_once(wreck *w) {
 
 /* ---- slots that stay because others are dropped */
 
-/* A name that stands in no lower slot but a dropped one is kept; where it stands again it is dropped. */
+/* A name and type that stand in no lower slot but a dropped one are kept; where they stand again they are dropped. */
 static void names_of_dropped(wreck *w) {
     static const uint8_t numbers[] = {4, 6, 7, 8};
     for (int k = 0; k < 4 * (FILES - 3); k++) {
         int f = 1 + k / 4, g = f + 1, h = f + 2;
+        memcpy(entry(&w->v, g), entry(&w->v, f), 17);
+        memcpy(entry(&w->v, h), entry(&w->v, f), 17);
         spoil(w, numbers[k % 4], f);
-        memcpy(entry(&w->v, g), entry(&w->v, f), 16);
-        memcpy(entry(&w->v, h), entry(&w->v, f), 16);
         lose_nothing(w);
         lose_file(w, f, numbers[k % 4]);
         lose_file(w, h, 5);
@@ -420,8 +423,8 @@ static void nothing_kept(wreck *w) {
     mends_as_told(w);
 }
 
-/* Noise in the directory in use and the map but for the identities. Every other slot has a file's name and type, some its length and start too, so
- * that every rule is asked. */
+/* Noise in the directory in use and the map but for the identities. Every other slot has a file's name, and its type or one at random; some its
+ * length and start too, so that every rule is asked. */
 static void noise(wreck *w) {
     const shape *s = w->v.s;
     for (int turn = 0; turn < 20; turn++) {
@@ -433,6 +436,8 @@ static void noise(wreck *w) {
         for (int slot = turn % 2; slot < s->slots; slot += 2) {
             int f = (int)(next_random() % FILES);
             memcpy(w->v.image + slot_at(s, slot), w->v.made + slot_at(s, slot_of_file(&w->v, f)), next_random() % 2 ? 17 : 24);
+            if (next_random() % 3 == 0)
+                w->v.image[slot_at(s, slot) + 16] = random_type(s);
         }
         if (s->kind != 3000 && w->v.image[16] == 255)
             w->v.image[16] = 1; /* 255 would tell another kind */

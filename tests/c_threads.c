@@ -38,7 +38,7 @@ static void read_all(size_t step) {
         name_of(S, (char)('a' + k), name);
         sj_listed l = sj_list(shared, bytes_of(S), slot);
         CHECK(l.refusal == 0 && l.name[0] == 'A' + k && l.length == n);
-        CHECK(sj_find(shared, bytes_of(S), name, 12).slot == slot);
+        CHECK(sj_find(shared, bytes_of(S), name, 12, S->type).slot == slot);
         CHECK(sj_blocks(shared, bytes_of(S), slot, blocks, 64).count == (n + 1023) / 1024 && blocks[0] == S->first + k);
         for (bool end = false; !end;) {
             sj_paged p = sj_page(shared, bytes_of(S), slot, at, out + at, n - at < step ? n - at : step);
@@ -51,7 +51,7 @@ static void read_all(size_t step) {
     CHECK(sj_list(shared, bytes_of(S), 63).refusal == SJ_NO_SUCH_FILE && strlen(sj_words(SJ_NO_SUCH_FILE)) > 0);
 }
 
-/* Puts and removals, one of them refused, on an image that nobody else has. */
+/* Puts and removals, one of them refused, on an image that nobody else has; a name is put again in another type. */
 static void change(const shape *s, uint8_t *image) {
     uint8_t name[12], type = s->type;
     for (int k = 0; k < FILES; k++) {
@@ -60,7 +60,8 @@ static void change(const shape *s, uint8_t *image) {
     }
     CHECK(sj_put(image, bytes_of(s), name, (size_t)s->letters, type, contents[0], 1).refusal == SJ_NAME_IN_USE);
     name_of(s, 'C', name);
-    CHECK(sj_remove(image, bytes_of(s), name, (size_t)s->letters).refusal == 0);
+    CHECK(sj_put(image, bytes_of(s), name, (size_t)s->letters, program_type(s), contents[1], 300).slot == FILES);
+    CHECK(sj_remove(image, bytes_of(s), name, (size_t)s->letters, type).refusal == 0);
     name_of(s, 'Z', name);
     CHECK(sj_put(image, bytes_of(s), name, (size_t)s->letters, type, contents[5], LONGEST - 5000).slot == 2);
 }

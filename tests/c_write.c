@@ -1,5 +1,5 @@
-/* Sequences of calls from C against a plain record of files: after each call the image is, byte by byte, what the call has to leave; it is
- * accepted, and every file pages back. A refused call leaves the image as it was. */
+/* Sequences of calls from C against a plain record of files by name and type: after each call the image is, byte by byte, what the call has to
+ * leave; it is accepted, and every file pages back. A refused call leaves the image as it was. */
 #include "skilletjay.h"
 #include "volumes.h"
 
@@ -17,6 +17,7 @@ typedef struct {
     uint8_t *image, *due; /* due: the image that the calls so far have to leave */
     uint8_t head[HEAD];   /* as it was before the first call */
     file files[SLOTS];
+    size_t pairs; /* files put beside one of their name */
 } disk;
 
 /* ---- the record */
@@ -41,11 +42,14 @@ static void keep_name(const disk *d, const char *name, char *kept) {
         kept[i] = d->s->kind != 900 && name[i] >= 'a' && name[i] <= 'z' ? (char)(name[i] - 32) : name[i];
 }
 
-static int slot_of(const disk *d, const char *name) {
+static bool legal(const disk *d, const char *name, uint8_t type) { return legal_name(d, name) && legal_type(d->s, type); }
+
+/* The lowest slot of a name, of one type or, if that is 0, of any. */
+static int slot_of(const disk *d, const char *name, uint8_t type) {
     char kept[13];
     keep_name(d, name, kept);
     for (int k = 0; k < d->s->slots; k++)
-        if (d->files[k].used && strcmp(d->files[k].name, kept) == 0)
+        if (d->files[k].used && strcmp(d->files[k].name, kept) == 0 && (type == 0 || d->files[k].type == type))
             return k;
     return -1;
 }
@@ -98,25 +102,33 @@ static void due_remove(disk *d, int slot) {
 static void same_image(const disk *d) { CHECK(memcmp(d->due, d->image, d->n) == 0); }
 
 static void put(disk *d, const char *name, uint8_t type, size_t length) {
-    bool legal = legal_name(d, name) && type >= first_type(d->s) && type < first_type(d->s) + 26;
     uint8_t *content = edge(0, length);
     for (size_t i = 0; i < length; i++)
         content[i] = (uint8_t)next_random();
-    int same = slot_of(d, name), slot = empty_slot(d);
-    uint32_t want = !legal ? 11 : length == 0 ? 13 : same >= 0 ? 12 : slot < 0 ? 14 : blocks_for(length) > free_blocks(d) ? 15 : 0;
+    bool may = legal(d, name, type);
+    int same = may ? slot_of(d, name, type) : -1, slot = empty_slot(d);
+    uint32_t want = !may ? 11 : length == 0 ? 13 : same >= 0 ? 12 : slot < 0 ? 14 : blocks_for(length) > free_blocks(d) ? 15 : 0;
     sj_found f = sj_put(d->image, d->n, at_edge(1, name, strlen(name)), strlen(name), type, content, length);
     CHECK(f.refusal == want && f.place == (want == 12 ? (size_t)same : 0) && f.slot == (want ? 0 : (size_t)slot));
     if (!want) {
+        d->pairs += slot_of(d, name, 0) >= 0;
         record_file(d, slot, name, type, content, length);
         due_put(d, slot);
     }
     same_image(d);
 }
 
-static void take_away(disk *d, const char *name) {
-    int slot = slot_of(d, name);
-    sj_done r = sj_remove(d->image, d->n, at_edge(1, name, strlen(name)), strlen(name));
-    CHECK(r.refusal == (!legal_name(d, name) ? 11u : slot < 0 ? 10u : 0u) && r.place == 0);
+/* Removes by name and type; a find before it and one after it are held to the record too. */
+static void take_away(disk *d, const char *name, uint8_t type) {
+    size_t named = strlen(name);
+    const uint8_t *lent = at_edge(1, name, named);
+    int slot = legal(d, name, type) ? slot_of(d, name, type) : -1;
+    uint32_t want = !legal(d, name, type) ? 11 : slot < 0 ? 10 : 0;
+    sj_found f = sj_find(d->image, d->n, lent, named, type);
+    CHECK(f.refusal == want && f.place == 0 && f.slot == (want ? 0 : (size_t)slot));
+    sj_done r = sj_remove(d->image, d->n, lent, named, type);
+    CHECK(r.refusal == want && r.place == 0);
+    CHECK(sj_find(d->image, d->n, lent, named, type).refusal == (want ? want : 10));
     if (slot >= 0) {
         due_remove(d, slot);
         free(d->files[slot].content);
@@ -164,9 +176,9 @@ static void null_arguments(disk *d) {
     CHECK(f.refusal == 11 && f.place == 0 && f.slot == 0);
     f = sj_put(d->image, d->n, name, letters, type, NULL, 0);
     CHECK(f.refusal == 13 && f.place == 0 && f.slot == 0);
-    f = sj_find(d->image, d->n, NULL, 0);
+    f = sj_find(d->image, d->n, NULL, 0, type);
     CHECK(f.refusal == 11 && f.place == 0 && f.slot == 0);
-    sj_done r = sj_remove(d->image, d->n, NULL, 0);
+    sj_done r = sj_remove(d->image, d->n, NULL, 0, type);
     CHECK(r.refusal == 11 && r.place == 0);
     same_image(d);
 }
@@ -207,7 +219,7 @@ static void start(disk *d, const shape *s, bool files) {
         for (int f = 0; f < FILES; f++) {
             char name[13];
             snprintf(name, sizeof name, "%-*s", s->letters, FILE_NAMES[f]);
-            record_file(d, slot_of_file(&v, f), name, s->type, v.contents[f], FILE_LENGTHS[f]);
+            record_file(d, slot_of_file(&v, f), name, type_of_file(s, f), v.contents[f], FILE_LENGTHS[f]);
         }
         drop_volume(&v);
     } else {
@@ -234,9 +246,14 @@ static void finish(disk *d) {
     release(d->image, d->n);
 }
 
-/* A name of the kind's length, or nearly; its letters are of either case. */
+/* A name of the kind's length, or nearly; its letters are of either case. Often it is that of a file. */
 static void random_name(const disk *d, char *name) {
     size_t letters = (size_t)d->s->letters - (next_random() % 40 == 0);
+    const file *f = &d->files[next_random() % 64];
+    if (f->used && next_random() % 3 == 0) {
+        memcpy(name, f->name, sizeof f->name);
+        return;
+    }
     memset(name, ' ', letters);
     name[letters] = 0;
     name[0] = (char)('A' + next_random() % 26 + (next_random() % 3 ? 0 : 32));
@@ -257,13 +274,16 @@ static size_t random_length(const disk *d) {
     }
 }
 
-/* Removes files that are there: names at random are seldom those of one. */
+/* Removes files that are there: names at random are seldom those of one. At times another type of the name is tried first. */
 static void thin_out(disk *d) {
     char name[13];
     for (int slot = 0; slot < d->s->slots; slot += 1 + (int)(next_random() % 40))
         if (d->files[slot].used) {
+            uint8_t type = d->files[slot].type;
             snprintf(name, sizeof name, "%s", d->files[slot].name);
-            take_away(d, name);
+            if (next_random() % 2)
+                take_away(d, name, random_type(d->s));
+            take_away(d, name, type);
         }
 }
 
@@ -298,26 +318,27 @@ static void sequence(const shape *s, int calls, bool files) {
         random_name(&d, name);
         bool filling = k % 600 < 400;
         if (next_random() % 10 < (filling ? 8u : 3u))
-            put(&d, name, (uint8_t)(first_type(s) + next_random() % 27), random_length(&d));
+            put(&d, name, random_type(s), random_length(&d));
         else if (next_random() % 4)
-            take_away(&d, name);
+            take_away(&d, name, random_type(s));
         else
             thin_out(&d);
         page_on(&d, &on);
         compare_some(&d, s->slots / 64);
     }
+    CHECK(d.pairs >= 30);
     finish(&d);
 }
 
-/* Small files only, so that the directory fills: 14. */
+/* Small files only, so that the directory fills: 14. Every name is put as a sample and as a program. */
 static void full_directory(const shape *s, bool files) {
     disk d;
     size_t more = s->slots == 64 ? 100 : 4;
     start(&d, s, files);
     for (int k = 0; k < s->slots + 2; k++) {
         char name[13];
-        snprintf(name, sizeof name, "%c%c%*s", 'A' + k % 26, 'A' + k / 26, s->letters - 2, "");
-        put(&d, name, s->type, 1 + more * (size_t)k);
+        snprintf(name, sizeof name, "%c%c%*s", 'A' + k / 2 % 26, 'A' + k / 52, s->letters - 2, "");
+        put(&d, name, k % 2 ? program_type(s) : s->type, 1 + more * (size_t)k);
     }
     CHECK(empty_slot(&d) < 0);
     finish(&d);
@@ -334,12 +355,12 @@ static void alike(const sj_checked *c, sj_found f, sj_done r) {
 static uint32_t write_refused(volume *v, uint8_t *before) {
     char name[13];
     size_t letters = (size_t)snprintf(name, sizeof name, "%-*s", v->s->letters, FILE_NAMES[next_random() % FILES]);
-    uint8_t type = v->s->type, *lent = at_edge(1, name, letters), *content = at_edge(0, name, letters);
+    uint8_t type = random_type(v->s), *lent = at_edge(1, name, letters), *content = at_edge(0, name, letters);
     memcpy(before, v->image, HEAD);
     sj_checked c = sj_check(v->image, v->n);
     if (c.refusal) {
-        alike(&c, sj_put(v->image, v->n, lent, letters, type, content, letters), sj_remove(v->image, v->n, lent, letters));
-        alike(&c, sj_put(v->image, v->n, NULL, 0, 0, NULL, 0), sj_remove(v->image, v->n, NULL, 0));
+        alike(&c, sj_put(v->image, v->n, lent, letters, type, content, letters), sj_remove(v->image, v->n, lent, letters, type));
+        alike(&c, sj_put(v->image, v->n, NULL, 0, 0, NULL, 0), sj_remove(v->image, v->n, NULL, 0, 0));
     }
     CHECK(memcmp(before, v->image, v->n) == 0);
     return c.refusal;
@@ -371,7 +392,7 @@ int main(void) {
     for (int k = 0; k < KINDS; k++)
         refused_images(&SHAPES[k]);
     CHECK(sj_put(NULL, 0, NULL, 0, 0, NULL, 0).refusal == 1);
-    CHECK(sj_remove(NULL, 0, NULL, 0).refusal == 1);
+    CHECK(sj_remove(NULL, 0, NULL, 0, 0).refusal == 1);
     puts("c_write: ok");
     return 0;
 }

@@ -47,8 +47,12 @@ static inline size_t slot_at(const shape *s, int slot) { return (size_t)s->direc
 /* The byte of a slot's name area after the name's letters. */
 static inline uint8_t padding(const shape *s, int at) { return s->kind == 900 ? 0 : s->kind == 1000 ? 32 : at == 15 ? 2 : 0; }
 
-/* The lowest type. */
+/* The lowest type, and that of a program. */
 static inline uint8_t first_type(const shape *s) { return (uint8_t)(s->type - ('S' - 'A')); }
+
+static inline uint8_t program_type(const shape *s) { return (uint8_t)(s->type - ('S' - 'P')); }
+
+static inline bool legal_type(const shape *s, uint8_t type) { return type >= first_type(s) && type < first_type(s) + 26; }
 
 /* n bytes that end at a page which can't be touched. */
 static inline uint8_t *guarded(size_t n) {
@@ -79,6 +83,16 @@ static inline uint8_t *edge(int place, size_t n) {
 /* A copy there. */
 static inline uint8_t *at_edge(int place, const void *from, size_t n) { return memcpy(edge(place, n), from, n); }
 
+/* A name there, cut or padded with spaces to a length of at most 13. */
+static inline uint8_t *spelled(const char *name, size_t length) {
+    char whole[14];
+    snprintf(whole, sizeof whole, "%-13s", name);
+    return at_edge(1, whole, length);
+}
+
+/* A name of the kind's length there. */
+static inline uint8_t *padded(const shape *s, const char *name) { return spelled(name, (size_t)s->letters); }
+
 /* A stream of numbers that is the same at every run. */
 static uint64_t seed = 20260701;
 
@@ -87,6 +101,14 @@ static inline uint32_t next_random(void) {
     seed ^= seed >> 7;
     seed ^= seed << 17;
     return (uint32_t)(seed >> 16);
+}
+
+/* A type: mostly a sample's or a program's, so that a name is met in both and twice in one; at times any legal one, seldom any byte. */
+static inline uint8_t random_type(const shape *s) {
+    uint32_t r = next_random();
+    if (r % 16 == 0)
+        return (uint8_t)next_random();
+    return r % 16 < 4 ? (uint8_t)(first_type(s) + next_random() % 26) : r % 16 < 10 ? s->type : program_type(s);
 }
 
 static inline void set_value(uint8_t *image, unsigned block, unsigned value) {
@@ -116,7 +138,7 @@ static inline uint8_t stored(const shape *s, char c) {
     return s->kind == 900 ? (uint8_t)c : c == ' ' ? 10 : (uint8_t)(c - 'A' + 11);
 }
 
-/* Writes an entry and chains the blocks, which hold content and noise after it. */
+/* Writes a sample's entry and chains the blocks, which hold content and noise after it. */
 static inline void add_file(uint8_t *image, const shape *s, int slot, const char *name, const unsigned *blocks, const uint8_t *content, size_t n) {
     uint8_t *entry = image + slot_at(s, slot);
     size_t count = (n + 1023) / 1024, named = strlen(name);
