@@ -194,10 +194,20 @@ impl<B: AsRef<[u8]>> Image<B> {
         Ok((0..kind.slots()).filter_map(|slot| self.list(Slot(slot)).ok()).take(files).collect())
     }
 
-    /// The slot of the file with a name, in ASCII with its spaces: 11, 10. On an S1000 or S3000 disk small letters are
-    /// taken as capitals, here and in [`put`](Image::put) and [`remove`](Image::remove); S900 names keep their case.
-    pub fn find(&self, name: impl AsRef<[u8]>) -> Result<Slot, Refusal> {
-        let told = lend::find(self.bytes(), name.as_ref());
+    /// The slot of the file with a name, in ASCII with its spaces, and a type, the byte itself: 11, 10. A file is known by
+    /// both: a program may have its sample's name. On an S1000 or S3000 disk small letters of a name are taken as
+    /// capitals, here and in [`put`](Image::put) and [`remove`](Image::remove); S900 names keep their case.
+    ///
+    /// ```
+    /// # use skilletjay::{Image, Slot};
+    /// let mut image = Image::new(vec![0; 819_200]);
+    /// image.put("PIANO     ", b'S', &[1; 3000])?;
+    /// image.put("PIANO     ", b'P', &[2; 60])?;
+    /// assert_eq!(image.find("PIANO     ", b'P'), Ok(Slot(1)));
+    /// # Ok::<(), skilletjay::Refusal>(())
+    /// ```
+    pub fn find(&self, name: impl AsRef<[u8]>, file_type: u8) -> Result<Slot, Refusal> {
+        let told = lend::find(self.bytes(), name.as_ref(), file_type);
         Refusal::or(told.refusal, told.place, Slot(told.slot))
     }
 
@@ -253,24 +263,25 @@ impl<B: AsRef<[u8]>> Image<B> {
 }
 
 impl<B: AsRef<[u8]> + AsMut<[u8]>> Image<B> {
-    /// Puts a file into the lowest empty slot: 11, 13, 12, 14, 15, 16. On an S1000 or S3000 disk the name is kept in
-    /// capitals, so two spellings of it are one: 12. The type is the byte itself; on an S3000 disk `b'S'` is refused by
-    /// 11, and `b'S' + 128` is a sample's.
+    /// Puts a file into the lowest empty slot: 11, 13, 12, 14, 15, 16. It is refused by 12 where a file has that name and
+    /// that type; one of another type is no hindrance. On an S1000 or S3000 disk the name is kept in capitals, so two
+    /// spellings of it are one. The type is the byte itself; on an S3000 disk `b'S'` is refused by 11, and `b'S' + 128`
+    /// is a sample's.
     pub fn put(&mut self, name: impl AsRef<[u8]>, file_type: u8, content: &[u8]) -> Result<Slot, Refusal> {
         let told = lend::put(self.bytes.as_mut(), name.as_ref(), file_type, content);
         Refusal::or(told.refusal, told.place, Slot(told.slot))
     }
 
-    /// Removes the file with a name: 11, 10.
-    pub fn remove(&mut self, name: impl AsRef<[u8]>) -> Result<(), Refusal> {
-        let told = lend::remove(self.bytes.as_mut(), name.as_ref());
+    /// Removes the file with a name and a type: 11, 10. Another of that name stays.
+    pub fn remove(&mut self, name: impl AsRef<[u8]>, file_type: u8) -> Result<(), Refusal> {
+        let told = lend::remove(self.bytes.as_mut(), name.as_ref(), file_type);
         Refusal::or(told.refusal, told.place, ())
     }
 
     /// Mends the image and says slot by slot what is lost: 1, 2, and no other. A slot is dropped that is malformed, or has
-    /// the name of a kept lower slot, a chain at fault, or a block of a kept chain; map values that no kept file needs
-    /// become those of free blocks. No content changes. Afterwards the image is accepted, and an accepted one comes
-    /// back as it was.
+    /// the name and type of a kept lower slot, a chain at fault, or a block of a kept chain; map values that no kept file
+    /// needs become those of free blocks. No content changes. Afterwards the image is accepted, and an accepted one
+    /// comes back as it was.
     ///
     /// ```
     /// # use skilletjay::{Fate, Image, Slot};
@@ -319,13 +330,13 @@ mod tests {
     #[test]
     fn arguments_are_refused() {
         let mut image = Image::new(vec![0; 819_200]);
-        assert_eq!(number(image.find("")), Some(11));
-        assert_eq!(number(image.find("NOT HERE  ")), Some(10));
+        assert_eq!(number(image.find("", b'S')), Some(11));
+        assert_eq!(number(image.find("NOT HERE  ", b'S')), Some(10));
         assert_eq!(number(image.put("A         ", b's', b"x")), Some(11));
         assert_eq!(number(image.put("A         ", b'S', b"")), Some(13));
         assert_eq!(number(image.put("A         ", b'S', &[0; 820_000])), Some(15));
         assert_eq!(number(image.list(Slot(usize::MAX))), Some(10));
-        assert_eq!(number(image.remove("A         ")), Some(10));
+        assert_eq!(number(image.remove("A         ", b'S')), Some(10));
         assert_eq!(image.into_bytes(), vec![0; 819_200]);
         assert_eq!(number(Image::new([]).check()), Some(1));
     }
@@ -393,10 +404,10 @@ mod tests {
         stored[..7].copy_from_slice(&[12, 11, 29, 29, 10, 13, 2]);
         stored[12..].copy_from_slice(&[0, 0, 0, 2, 211, 1, 4, 0, 17, 0, 0, 12]);
         assert_eq!(image.bytes()[5120..5144], stored);
-        assert_eq!((image.find(padded("bass C2")), image.blocks(slot)), (Ok(slot), Ok(vec![17, 18])));
+        assert_eq!((image.find(padded("bass C2"), 211), image.blocks(slot)), (Ok(slot), Ok(vec![17, 18])));
         assert_eq!(image.read(slot), Ok(vec![7; 1025]));
-        assert_eq!(number(image.put(padded("BASS c2"), 208, b"x")), Some(12));
-        assert_eq!(image.remove(padded("bass c2")), Ok(()));
+        assert_eq!(number(image.put(padded("BASS c2"), 211, b"x")), Some(12));
+        assert_eq!(image.remove(padded("bass c2"), 211), Ok(()));
         assert_eq!(image.bytes()[5120..5144], [[0; 22].as_slice(), &[0, 12]].concat());
     }
 
@@ -410,7 +421,10 @@ mod tests {
         assert_eq!(image.check().map(|checked| (checked.files, checked.free)), Ok((512, 1071)));
         let entries = image.entries().expect("accepted");
         assert_eq!((entries.len(), entries[511].name.as_str()), (512, "N 511       "));
-        assert_eq!((image.find("n 511       "), number(image.list(Slot(512)))), (Ok(Slot(511)), Some(10)));
+        assert_eq!(
+            (image.find("n 511       ", 208), number(image.list(Slot(512)))),
+            (Ok(Slot(511)), Some(10))
+        );
     }
 
     #[test]
@@ -422,14 +436,14 @@ mod tests {
             assert_eq!(image.list(slot).expect("there").name, "BASS C2     ");
             assert_eq!(image.bytes()[..12], [12, 11, 29, 29, 10, 13, 2, 10, 10, 10, 10, 10]);
             for name in ["BASS C2", "bass c2", "bAsS C2"] {
-                assert_eq!(image.find(padded(name)), Ok(slot));
+                assert_eq!(image.find(padded(name), b's'), Ok(slot));
             }
             let before = image.clone();
-            let refusal = image.put(padded("bAsS C2"), b'p', b"y").expect_err("one name");
+            let refusal = image.put(padded("bAsS C2"), b's', b"y").expect_err("one name");
             assert_eq!((refusal.number(), refusal.place()), (12, slot.0));
-            assert_eq!(number(image.find(padded("bass`c2"))), Some(11));
+            assert_eq!(number(image.find(padded("bass`c2"), b's')), Some(11));
             assert_eq!(image, before);
-            assert_eq!(image.remove(padded("BaSs C2")), Ok(()));
+            assert_eq!(image.remove(padded("BaSs C2"), b's'), Ok(()));
             assert_eq!(image.check().expect("accepted").files, 0);
         }
     }
@@ -442,23 +456,64 @@ mod tests {
             let slots = ["Bass", "BASS"].map(|name| image.put(padded(name), b'S', name.as_bytes()));
             assert_eq!(slots, [Ok(Slot(0)), Ok(Slot(1))]);
             assert_eq!(image.list(Slot(0)).expect("there").name, "Bass      ");
-            assert_eq!(
-                (image.find(padded("BASS")), number(image.find(padded("bass")))),
-                (Ok(Slot(1)), Some(10))
-            );
-            assert_eq!(image.remove(padded("Bass")), Ok(()));
-            assert_eq!(
-                (number(image.find(padded("Bass"))), image.find(padded("BASS"))),
-                (Some(10), Ok(Slot(1)))
-            );
+            let find = |image: &Image, name| image.find(padded(name), b'S');
+            assert_eq!((find(&image, "BASS"), number(find(&image, "bass"))), (Ok(Slot(1)), Some(10)));
+            assert_eq!(image.remove(padded("Bass"), b'S'), Ok(()));
+            assert_eq!((number(find(&image, "Bass")), find(&image, "BASS")), (Some(10), Ok(Slot(1))));
         }
+    }
+
+    /// Every kind of disk, with the types of a sample and a program there, and one that isn't legal.
+    const TYPES: [(Kind, Density, [u8; 3]); 5] = [
+        (Kind::S900, Density::Low, *b"SPs"),
+        (Kind::S900, Density::High, *b"SPs"),
+        (Kind::S1000, Density::Low, *b"spS"),
+        (Kind::S1000, Density::High, *b"spS"),
+        (Kind::S3000, Density::High, [211, 208, b'S']),
+    ];
+
+    #[test]
+    fn a_program_may_share_its_samples_name() {
+        for (kind, density, [sample, program, _]) in TYPES {
+            let (mut image, name) = (blank(kind, density), kind.padded("PIANO"));
+            assert_eq!(image.put(&name, sample, &[1; 1025]), Ok(Slot(0)));
+            assert_eq!(image.put(&name, program, &[2; 3]), Ok(Slot(1)));
+            assert_eq!(image.check().map(|checked| checked.files), Ok(2));
+            assert_eq!([sample, program].map(|byte| image.find(&name, byte)), [Ok(Slot(0)), Ok(Slot(1))]);
+            for (byte, slot) in [(sample, 0), (program, 1)] {
+                let refusal = image.put(&name, byte, b"x").expect_err("name and type are taken");
+                assert_eq!((refusal.number(), refusal.place()), (12, slot));
+            }
+            assert_eq!(image.remove(&name, sample), Ok(()));
+            assert_eq!((number(image.find(&name, sample)), image.read(Slot(1))), (Some(10), Ok(vec![2; 3])));
+            assert_eq!(number(image.remove(&name, sample)), Some(10));
+            assert_eq!((image.put(&name, sample, b"x"), image.remove(&name, program)), (Ok(Slot(0)), Ok(())));
+            assert_eq!(image.read(Slot(0)), Ok(b"x".to_vec()));
+        }
+    }
+
+    /// 11 comes before 10, for the type as for the name; neither is asked of an image that is refused.
+    #[test]
+    fn an_illegal_type_is_no_type_to_find() {
+        for (kind, density, [sample, _, illegal]) in TYPES {
+            let (mut image, name) = (blank(kind, density), kind.padded("PIANO"));
+            image.put(&name, sample, b"x").expect("room");
+            for name in [name.clone(), kind.padded("NOT HERE")] {
+                for byte in [illegal, 0, 255] {
+                    let answers = (number(image.find(&name, byte)), number(image.remove(&name, byte)));
+                    assert_eq!(answers, (Some(11), Some(11)), "{kind} {byte}");
+                }
+            }
+            assert_eq!((number(image.find("", sample)), image.find(&name, sample)), (Some(11), Ok(Slot(0))));
+        }
+        assert_eq!(number(Image::new([]).find("", 0)), Some(1));
     }
 
     #[test]
     fn a_name_may_lie_in_the_image() {
         let mut image = Image::new(vec![0; 819_200]);
         image.put("A         ", b'S', b"x").expect("room");
-        assert_eq!(image.find(&image.bytes()[..10]), Ok(Slot(0)));
+        assert_eq!(image.find(&image.bytes()[..10], b'S'), Ok(Slot(0)));
     }
 
     #[test]
@@ -467,7 +522,7 @@ mod tests {
         for (name, length) in [("A         ", 2048), ("B         ", 1), ("C         ", 1024)] {
             image.put(name, b'S', &vec![1; length]).expect("room");
         }
-        image.remove("B         ").expect("there");
+        image.remove("B         ", b'S').expect("there");
         let slot = image.put("D         ", b'S', &[2; 1025]).expect("room");
         assert_eq!(image.blocks(slot), Ok(vec![6, 8])); // over the gap that B left
         assert_eq!(image.blocks(Slot(0)), Ok(vec![4, 5]));

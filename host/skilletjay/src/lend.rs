@@ -39,10 +39,10 @@ pub fn list(image: &[u8], slot: usize) -> Listed {
 }
 
 /// `sj_find`.
-pub fn find(image: &[u8], name: &[u8]) -> Found {
+pub fn find(image: &[u8], name: &[u8], file_type: u8) -> Found {
     let name = apart(name, image);
     // SAFETY: image and name are readable for their lengths and lie apart.
-    unsafe { raw::sj_find(lent(image), image.len(), lent(&name), name.len()) }
+    unsafe { raw::sj_find(lent(image), image.len(), lent(&name), name.len(), file_type) }
 }
 
 /// `sj_page`.
@@ -67,9 +67,9 @@ pub fn put(image: &mut [u8], name: &[u8], file_type: u8, content: &[u8]) -> Foun
 }
 
 /// `sj_remove`.
-pub fn remove(image: &mut [u8], name: &[u8]) -> Done {
+pub fn remove(image: &mut [u8], name: &[u8], file_type: u8) -> Done {
     // SAFETY: the image is writable and the name readable for its length; a mutable slice lies apart.
-    unsafe { raw::sj_remove(lent_mut(image), image.len(), lent(name), name.len()) }
+    unsafe { raw::sj_remove(lent_mut(image), image.len(), lent(name), name.len(), file_type) }
 }
 
 /// `sj_salvage`.
@@ -133,9 +133,9 @@ mod tests {
         let mut image = vec![0; 819_200];
         let content = b"A         and more";
         assert_eq!(put(&mut image, &content[..10], b'S', content), Found::default());
-        assert_eq!(find(&image, &image[..10]), Found::default());
+        assert_eq!(find(&image, &image[..10], b'S'), Found::default());
         let mut pool = [0; 30]; // a find of the name that follows its entry
-        pool[..20].copy_from_slice(&[2, 0, 0, 0, 20, 0, 0, 0, 10, 0, 0, 0, 0, 0, 0, 0, 0, 0, 0, 0]);
+        pool[..20].copy_from_slice(&[2, b'S', 0, 0, 20, 0, 0, 0, 10, 0, 0, 0, 0, 0, 0, 0, 0, 0, 0, 0]);
         pool[20..].copy_from_slice(&content[..10]);
         let mut output = [9; 1044];
         assert_eq!(run(&mut image, &pool[..20], &pool, &mut output), 1);

@@ -2,7 +2,8 @@
 //!
 //! The calls are those of `include/skilletjay.h`, on Rust's own slices. An [`Image`] is any bytes, owned or
 //! borrowed; every call checks it first, so nothing has to be checked before. A call that can't be done gives a
-//! [`Refusal`] and changes nothing. An image that is refused can be mended, with [`Image::salvage`].
+//! [`Refusal`] and changes nothing. An image that is refused can be mended, with [`Image::salvage`]. A file is known by
+//! its name and its type together, or by its slot.
 //!
 //! ```
 //! use skilletjay::{Image, Kind};

@@ -61,7 +61,13 @@ pub struct Counted {
 unsafe extern "C" {
     pub fn sj_check(image: *const u8, image_len: usize) -> Checked;
     pub fn sj_list(image: *const u8, image_len: usize, slot: usize) -> Listed;
-    pub fn sj_find(image: *const u8, image_len: usize, name: *const u8, name_len: usize) -> Found;
+    pub fn sj_find(
+        image: *const u8,
+        image_len: usize,
+        name: *const u8,
+        name_len: usize,
+        file_type: u8,
+    ) -> Found;
     pub fn sj_page(
         image: *const u8,
         image_len: usize,
@@ -86,7 +92,13 @@ unsafe extern "C" {
         content: *const u8,
         content_len: usize,
     ) -> Found;
-    pub fn sj_remove(image: *mut u8, image_len: usize, name: *const u8, name_len: usize) -> Done;
+    pub fn sj_remove(
+        image: *mut u8,
+        image_len: usize,
+        name: *const u8,
+        name_len: usize,
+        file_type: u8,
+    ) -> Done;
     pub fn sj_salvage(image: *mut u8, image_len: usize, report: *mut u8, report_len: usize) -> Counted;
     pub fn sj_run(
         image: *mut u8,

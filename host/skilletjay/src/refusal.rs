@@ -64,7 +64,7 @@ const ROWS: [Row; 21] = [
     (
         5,
         Place::Slot,
-        "a name stands in the directory twice",
+        "a name stands twice within one type",
         "Rename or remove one of the two files on the sampler and read the disk again, or salvage what is sound.",
     ),
     (
@@ -92,7 +92,7 @@ const ROWS: [Row; 21] = [
         "a block is marked as used but belongs to no file",
         "A file was lost from the directory or the map is damaged; read the disk again, or salvage what is sound.",
     ),
-    (10, Place::None, "there is no such file", "List the disk to see its names and slots."),
+    (10, Place::None, "there is no such file", "List the disk to see its names, types and slots."),
     (
         11,
         Place::None,
@@ -104,9 +104,9 @@ const ROWS: [Row; 21] = [
     (
         12,
         Place::Slot,
-        "the name is already used",
-        "Take another name, or remove the file that has it first; types don't tell names apart, nor on an S1000 or \
-         S3000 disk small letters and capitals.",
+        "a file of that type already has the name",
+        "Take another name, or remove the file that has it first; on an S1000 or S3000 disk small letters and capitals \
+         don't tell names apart.",
     ),
     (13, Place::None, "the content is empty", "Give a content of at least one byte."),
     (14, Place::None, "all slots are used", "Remove a file first, or take another disk."),

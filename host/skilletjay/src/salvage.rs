@@ -170,6 +170,20 @@ mod tests {
         assert_eq!(image.read(Slot(2)), Ok(vec![2; 2000]));
     }
 
+    /// Within one type the higher slot is lost; of two types both are kept, and the check has nothing against them.
+    #[test]
+    fn a_name_may_stand_in_two_types() {
+        let called_b = |at, file_type| [(slot(at, 0), b'B'), (slot(at, 16), file_type)];
+        assert_eq!(lost(spoiled(&called_b(2, b'S'))), (vec![(5, 2)], 2));
+        let two = spoiled(&called_b(2, b'P'));
+        assert_eq!(two.check().map(|checked| checked.files), Ok(4));
+        assert_eq!(lost(two), (vec![], 0));
+        let three = |file_type| spoiled(&[called_b(2, b'P'), called_b(3, file_type)].concat());
+        assert_eq!(lost(three(b'P')), (vec![(5, 3)], 2));
+        assert_eq!(lost(three(b'S')), (vec![(5, 3)], 2)); // B's own, two slots below
+        assert_eq!(lost(three(b'Q')), (vec![], 0));
+    }
+
     #[test]
     fn all_may_be_lost() {
         let types: Vec<(usize, u8)> = (0..4).map(|at| (slot(at, 16), 1)).collect();

@@ -22,11 +22,11 @@ macro_rules! like {
 const FUNCTIONS: &str = "
 sj_checked (*check)(const uint8_t *, size_t) = sj_check;
 sj_listed (*list)(const uint8_t *, size_t, size_t) = sj_list;
-sj_found (*find)(const uint8_t *, size_t, const uint8_t *, size_t) = sj_find;
+sj_found (*find)(const uint8_t *, size_t, const uint8_t *, size_t, uint8_t) = sj_find;
 sj_paged (*page)(const uint8_t *, size_t, size_t, size_t, uint8_t *, size_t) = sj_page;
 sj_counted (*blocks)(const uint8_t *, size_t, size_t, uint16_t *, size_t) = sj_blocks;
 sj_found (*put)(uint8_t *, size_t, const uint8_t *, size_t, uint8_t, const uint8_t *, size_t) = sj_put;
-sj_done (*take)(uint8_t *, size_t, const uint8_t *, size_t) = sj_remove;
+sj_done (*take)(uint8_t *, size_t, const uint8_t *, size_t, uint8_t) = sj_remove;
 sj_counted (*salvage)(uint8_t *, size_t, uint8_t *, size_t) = sj_salvage;
 size_t (*run)(uint8_t *, size_t, const uint8_t *, size_t, const uint8_t *, size_t, uint8_t *, size_t) = sj_run;
 sj_counted (*unpack[])(const uint8_t *, size_t, int16_t *, size_t) = {sj_s900_unpack, sj_s1000_unpack};
