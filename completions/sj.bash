@@ -4,10 +4,10 @@ _sj_options() {
     local every='--json --quiet --explain --help -h'
     case $1 in
         check | ls | program | help) echo "$every" ;;
-        get | unpack) echo "-o --all --force $every" ;;
+        get | unpack) echo "-o --all --type --force $every" ;;
         put) echo "--name --type --replace --allow-empty-name --force --timeout $every" ;;
-        mv) echo "--replace --allow-empty-name --force --timeout $every" ;;
-        rm) echo "--force --timeout $every" ;;
+        mv) echo "--type --replace --allow-empty-name --force --timeout $every" ;;
+        rm) echo "--type --force --timeout $every" ;;
         salvage) echo "-o --in-place --dry-run --force --timeout $every" ;;
         pack) echo "--like -o --name --allow-empty-name --round --clip-loops $every" ;;
     esac

@@ -2,6 +2,7 @@
 
 use crate::{akaii, file_type};
 use skilletjay::{BLOCK, Checked, Density, Kind, Slot};
+use std::collections::BTreeSet;
 
 /// Bytes of a slot.
 const SLOT: usize = 24;
@@ -107,6 +108,12 @@ fn shown(characters: &[Result<char, u8>]) -> String {
     format!("\"{}\"", characters.iter().map(escaped).collect::<String>())
 }
 
+/// The types of an accepted image's files, each once.
+pub fn types(kind: Kind, image: &[u8]) -> BTreeSet<u8> {
+    let all = (0..kind.slots()).map(|slot| Written::at(kind, image, Slot(slot)).type_byte());
+    all.filter(|&byte| byte != 0).collect() // an empty slot's is 0
+}
+
 /// How many data blocks have 0 in the map and had another value before.
 pub fn freed(checked: &Checked, before: &[u8], after: &[u8]) -> usize {
     let (first, blocks) = match (checked.kind, checked.density) {
@@ -133,6 +140,8 @@ mod tests {
         for layout in LAYOUTS {
             let image = Image::new(maker::disk(layout, Plan { files: 40, free: 100 }, &mut random));
             let kind = image.check().expect("accepted").kind;
+            let listed = image.entries().expect("accepted").into_iter().map(|entry| entry.file_type);
+            assert_eq!(types(kind, image.bytes()), listed.collect());
             for entry in image.entries().expect("accepted") {
                 let written = Written::at(kind, image.bytes(), entry.slot);
                 let told = (written.name(), written.file_type(), written.length());

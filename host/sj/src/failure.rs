@@ -4,7 +4,7 @@ use crate::input;
 use crate::json::Object;
 use crate::manner::Manner;
 use crate::output;
-use skilletjay::{Place, Refusal};
+use skilletjay::{Entry, Place, Refusal, Slot};
 use std::fmt::Display;
 use std::io;
 use std::path::Path;
@@ -22,18 +22,22 @@ struct Told {
     about: String,
     /// The file on the image that it is about; empty for none.
     name: String,
+    /// Its slot, where that is known: another file may have the name.
+    slot: Option<Slot>,
     /// What is wrong, without what it is about.
     words: String,
     /// What to do about it; empty where the words say it.
     advice: String,
     refusal: Option<Refusal>,
+    /// The files that it is between, as JSON; empty for none.
+    entries: String,
 }
 
 impl Failure {
     fn new(status: u8, about: impl Display, words: impl Display) -> Failure {
         let (about, words) = (about.to_string(), words.to_string());
-        let (name, advice) = (String::new(), String::new());
-        Failure(Box::new(Told { status, about, name, words, advice, refusal: None }))
+        let (name, advice, entries) = (String::new(), String::new(), String::new());
+        Failure(Box::new(Told { status, about, name, slot: None, words, advice, refusal: None, entries }))
     }
 
     fn with(mut self, change: impl FnOnce(&mut Told)) -> Failure {
@@ -84,6 +88,16 @@ impl Failure {
         self.with(|told| told.name = name.trim_end().to_string())
     }
 
+    /// The same, about a file on the image whose slot is told too.
+    pub fn on_entry(self, entry: &Entry) -> Failure {
+        self.on(&entry.name).with(|told| told.slot = Some(entry.slot))
+    }
+
+    /// The same, between files that are an array in JSON; in lines the words tell them.
+    pub fn between(self, entries: String) -> Failure {
+        self.with(|told| told.entries = entries)
+    }
+
     /// All was told already; the status alone is left.
     pub fn told(status: u8) -> Failure {
         Failure::new(status, "", "")
@@ -92,7 +106,10 @@ impl Failure {
     /// The same, told with what was done all the same.
     pub fn after(self, done: impl Display) -> Failure {
         let words = format!("{done}, but {}{}", self.start(), self.0.words);
-        self.with(|told| (told.about, told.name, told.words) = (String::new(), String::new(), words))
+        self.with(|told| {
+            (told.about, told.name, told.slot) = (String::new(), String::new(), None);
+            told.words = words;
+        })
     }
 
     /// Adds to what is wrong.
@@ -106,7 +123,11 @@ impl Failure {
             "" => String::new(),
             about => format!("{}: ", plain(about)),
         };
-        with_colon(&self.0.about) + &with_colon(&self.0.name)
+        let file = match self.0.slot {
+            Some(slot) => format!("{slot} [{}]: ", self.0.name),
+            None => with_colon(&self.0.name),
+        };
+        with_colon(&self.0.about) + &file
     }
 
     /// Tells it: a line on standard error, and one more of advice where that is asked for; or an object.
@@ -128,7 +149,9 @@ impl Failure {
     }
 
     fn object(&self, manner: Manner) -> String {
-        let object = Object::new().text_if("file", &self.0.about).text_if("name", &self.0.name);
+        let slot = self.0.slot.map_or(String::new(), |slot| slot.0.to_string());
+        let object = Object::new().text_if("file", &self.0.about).raw_if("slot", &slot);
+        let object = object.text_if("name", &self.0.name);
         let object = match self.0.refusal {
             Some(refusal) => object
                 .number("refusal", refusal.number() as usize)
@@ -141,6 +164,7 @@ impl Failure {
         object
             .text(words, &self.0.words)
             .text_if("advice", if manner.explain { &self.0.advice } else { "" })
+            .raw_if("entries", &self.0.entries)
             .line()
     }
 

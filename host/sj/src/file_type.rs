@@ -1,8 +1,10 @@
 //! Types of files as they are typed and told. On an S3000 disk a type is a capital with 128 added: it is told as that
 //! capital, and in messages with its number, as S (211).
 
+use crate::arguments::{Arguments, text};
 use crate::failure::Failure;
-use skilletjay::Kind;
+use skilletjay::{Kind, Refusal};
+use std::ops::RangeInclusive;
 
 /// A type as it is typed.
 #[derive(Clone, Copy, Debug, PartialEq, Eq)]
@@ -14,8 +16,14 @@ pub enum Typed {
 }
 
 impl Typed {
+    /// What `--type` says, if it is given.
+    pub fn asked(arguments: &Arguments) -> Result<Option<Typed>, Failure> {
+        let word = arguments.value("--type").map(|word| text("type", word)).transpose()?;
+        word.map(|word| Typed::of(&word)).transpose()
+    }
+
     /// What a word says. One digit is a character, and no type of any disk.
-    pub fn of(word: &str) -> Result<Typed, Failure> {
+    fn of(word: &str) -> Result<Typed, Failure> {
         let digits = word.bytes().all(|byte| byte.is_ascii_digit());
         match (word.as_bytes(), word.parse()) {
             (&[letter], _) => Ok(Typed::Letter(letter)),
@@ -38,12 +46,44 @@ fn not_typed() -> Failure {
     Failure::usage("the type is one letter; on an S3000 disk its number does too, as 211 for S")
 }
 
+/// The types that a kind of disk has.
+pub fn legal(kind: Kind) -> RangeInclusive<u8> {
+    match kind {
+        Kind::S900 => b'A'..=b'Z',
+        Kind::S1000 => b'a'..=b'z',
+        Kind::S3000 => 193..=218,
+    }
+}
+
+/// The type of samples.
+pub fn of_samples(kind: Kind) -> u8 {
+    match kind {
+        Kind::S900 => b'S',
+        Kind::S1000 => b's',
+        Kind::S3000 => b'S' + 128,
+    }
+}
+
+/// A type as messages tell it.
+pub fn told(kind: Kind, file_type: u8) -> String {
+    let letter = char::from(file_type & 127);
+    match kind {
+        Kind::S900 | Kind::S1000 => letter.to_string(),
+        Kind::S3000 => format!("{letter} ({file_type})"),
+    }
+}
+
+/// The refusal of a type, in the words of the disk's kind.
+pub fn refused(about: &str, kind: Kind, file_type: u8, refusal: Refusal) -> Failure {
+    Failure::refused_as(about, refusal, bad_type(kind, file_type).unwrap_or_default())
+}
+
 /// What is wrong with a type on a kind of disk, and the rule; None if it is legal.
 pub fn bad_type(kind: Kind, file_type: u8) -> Option<String> {
-    let (legal, rule) = match kind {
-        Kind::S900 => (file_type.is_ascii_uppercase(), "an S900 type is one of A to Z"),
-        Kind::S1000 => (file_type.is_ascii_lowercase(), "an S1000 type is one of a to z"),
-        Kind::S3000 => (matches!(file_type, 193..=218), "an S3000 type is one of A (193) to Z (218)"),
+    let rule = match kind {
+        Kind::S900 => "an S900 type is one of A to Z",
+        Kind::S1000 => "an S1000 type is one of a to z",
+        Kind::S3000 => "an S3000 type is one of A (193) to Z (218)",
     };
     let character = char::from(file_type);
     let told = match kind {
@@ -51,7 +91,7 @@ pub fn bad_type(kind: Kind, file_type: u8) -> Option<String> {
         Kind::S3000 if file_type.is_ascii_graphic() => format!("{character:?} ({file_type})"),
         Kind::S3000 => file_type.to_string(),
     };
-    (!legal).then(|| format!("the type {told} isn't legal: {rule}"))
+    (!legal(kind).contains(&file_type)).then(|| format!("the type {told} isn't legal: {rule}"))
 }
 
 #[cfg(test)]
@@ -75,6 +115,15 @@ mod tests {
         ] {
             assert_eq!([on(word, Kind::S900), on(word, Kind::S1000)], [s900, s1000], "{word}");
             assert_eq!(on(word, Kind::S3000), s3000, "{word}");
+        }
+    }
+
+    #[test]
+    fn types_are_told_as_letters() {
+        let told = |kind| told(kind, of_samples(kind));
+        assert_eq!([told(Kind::S900), told(Kind::S1000), told(Kind::S3000)], ["S", "s", "S (211)"]);
+        for kind in [Kind::S900, Kind::S1000, Kind::S3000] {
+            assert!(legal(kind).len() == 26 && legal(kind).contains(&of_samples(kind)), "{kind}");
         }
     }
 

@@ -34,6 +34,11 @@ impl Object {
         self
     }
 
+    /// A field whose value is JSON already, unless that is empty.
+    pub fn raw_if(self, name: &str, value: &str) -> Object {
+        if value.is_empty() { self } else { self.raw(name, value) }
+    }
+
     /// A field with a text.
     pub fn text(self, name: &str, value: &str) -> Object {
         self.raw(name, quoted(value))
@@ -71,7 +76,8 @@ mod tests {
 
     #[test]
     fn fields_stand_in_order() {
-        let object = Object::new().text("a", "b").text_if("c", "").number("d", 1).raw("f", "[]");
+        let object =
+            Object::new().text("a", "b").text_if("c", "").number("d", 1).raw_if("e", "").raw("f", "[]");
         assert_eq!(object.line(), "{\"a\":\"b\",\"d\":1,\"f\":[]}\n");
     }
 }

@@ -9,6 +9,7 @@ mod beside;
 mod commands;
 mod directory;
 mod failure;
+mod file_name;
 mod file_type;
 mod folder;
 mod image_file;

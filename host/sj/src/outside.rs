@@ -54,6 +54,14 @@ mod tests {
         assert_eq!(file_name(&Entry { file_type: 211, ..entry(0, "A           ") }), "A.S"); // an S3000's
     }
 
+    /// A sample and its program: their types tell them apart, and a WAV file has none.
+    #[test]
+    fn one_name_in_two_types_is_two_files() {
+        let entries = [entry(0, "PIANO     "), Entry { file_type: b'P', ..entry(1, "PIANO     ") }];
+        assert_eq!(distinct(&entries, file_name), ["PIANO.S", "PIANO.P"]);
+        assert_eq!(distinct(&entries, wav_name), ["PIANO.wav", "1-PIANO.wav"]);
+    }
+
     #[test]
     fn a_name_with_its_slot_may_be_taken_too() {
         let entries = [entry(0, "2-A_B     "), entry(1, "a/b       "), entry(2, "A_B       ")];

@@ -1,7 +1,13 @@
 //! Which files of an image the words of a command line name.
 
+#[cfg(test)]
+mod tests;
+
 use crate::arguments::text;
-use crate::failure::Failure;
+use crate::commands::ls;
+use crate::failure::{Failure, counting};
+use crate::file_type::{self, Typed};
+use crate::{directory, file_name};
 use skilletjay::{Entry, Image, Kind, Refusal, Slot};
 use std::collections::HashSet;
 use std::ffi::OsString;
@@ -28,64 +34,156 @@ pub struct Chosen {
     pub single: bool,
 }
 
-/// A name as the disk has it. Spaces at its end are no part of what was meant, so that one too many is no other name.
-pub fn padded(kind: Kind, name: &str) -> String {
-    kind.padded(name.trim_end_matches(' '))
+/// The files of an accepted image from which words choose: all, or those of one type.
+pub struct Files<'a, B> {
+    about: &'a str,
+    image: &'a Image<B>,
+    /// Whose disk it is.
+    pub kind: Kind,
+    /// The type that is asked for, if one is.
+    asked: Option<u8>,
+    /// Whether a name that several files have is the sample's.
+    samples_first: bool,
 }
 
-/// A name or a pattern in the letters that the kind has: an S1000's or S3000's are capitals, and small ones stand for
-/// them.
-pub fn folded(kind: Kind, word: &str) -> String {
-    match kind {
-        Kind::S900 => word.to_string(),
-        Kind::S1000 | Kind::S3000 => word.to_ascii_uppercase(),
-    }
-}
-
-/// The files that words name, each once, in the words' order: a slot, a name, or a pattern that stands for every name
-/// that it matches. A name that is on the disk to the letter is that file alone, also where it looks like a pattern.
-pub fn chosen<B: AsRef<[u8]>>(
-    about: &str,
-    image: &Image<B>,
-    words: Vec<OsString>,
-) -> Result<Chosen, Failure> {
-    let kind = image.check().map_err(|refusal| Failure::refused(about, refusal))?.kind;
-    let (mut taken, mut entries) = (HashSet::new(), Vec::new());
-    let mut single = words.len() == 1;
-    for word in words {
-        let word = text("name", word)?;
-        let (found, by_pattern) = named(about, image, kind, &word)?;
-        single &= !by_pattern;
-        entries.extend(found.into_iter().filter(|entry| taken.insert(entry.slot)));
-    }
-    Ok(Chosen { entries, single })
-}
-
-/// The files that a word names, and whether it is a pattern.
-fn named<B: AsRef<[u8]>>(
-    about: &str,
-    image: &Image<B>,
-    kind: Kind,
-    word: &str,
-) -> Result<(Vec<Entry>, bool), Failure> {
-    let refused = |refusal| refused_name(about, kind, word, refusal);
-    let found = match slot_number(word) {
-        Some(slot) => Ok(slot),
-        None => image.find(padded(kind, word)),
-    };
-    match found {
-        Ok(slot) => Ok((vec![image.list(slot).map_err(refused)?], false)),
-        Err(_) if is_pattern(word) => {
-            let mut entries = image.entries().map_err(refused)?;
-            let pattern = folded(kind, word);
-            entries.retain(|entry| matches(&pattern, entry.name.trim_end()));
-            if entries.is_empty() {
-                let advice = "List the disk to see its names and slots.";
-                return Err(Failure::declined(about, "no file has such a name", advice).on(word));
-            }
-            Ok((entries, true))
+impl<'a, B: AsRef<[u8]>> Files<'a, B> {
+    /// Those of an image, of a type if one is given; it has to be legal on the disk.
+    pub fn of(about: &'a str, image: &'a Image<B>, typed: Option<Typed>) -> Result<Files<'a, B>, Failure> {
+        let kind = image.check().map_err(|refusal| Failure::refused(about, refusal))?.kind;
+        let asked = typed.map(|typed| typed.on(kind)).transpose()?;
+        if let Some(file_type) = asked
+            && let Err(refusal) = image.find(file_name::padded(kind, ""), file_type)
+            && refusal.number() == 11
+        {
+            // A name of spaces is legal on every disk, so it is the type that isn't.
+            return Err(file_type::refused(about, kind, file_type, refusal));
         }
-        Err(refusal) => Err(refused(refusal)),
+        Ok(Files { about, image, kind, asked, samples_first: false })
+    }
+
+    /// The same, but that a name which several files have is the sample's, if one of them is a sample.
+    pub fn samples_first(self) -> Files<'a, B> {
+        Files { samples_first: true, ..self }
+    }
+
+    /// All of them, by their slots.
+    pub fn all(&self) -> Result<Vec<Entry>, Failure> {
+        let mut entries = self.image.entries().map_err(|refusal| Failure::refused(self.about, refusal))?;
+        entries.retain(|entry| self.is_asked(entry));
+        Ok(entries)
+    }
+
+    /// The files that words name, each once, in the words' order: a slot, a name, or a pattern that stands for every name
+    /// that it matches. A name that is on the disk to the letter is no pattern, also where it looks like one.
+    pub fn chosen(&self, words: Vec<OsString>) -> Result<Chosen, Failure> {
+        let (mut taken, mut entries) = (HashSet::new(), Vec::new());
+        let mut single = words.len() == 1;
+        for word in words {
+            let word = text("name", word)?;
+            let (found, by_pattern) = self.named(&word)?;
+            single &= !by_pattern;
+            entries.extend(found.into_iter().filter(|entry| taken.insert(entry.slot)));
+        }
+        Ok(Chosen { entries, single })
+    }
+
+    /// The files that a word names, and whether it is a pattern.
+    fn named(&self, word: &str) -> Result<(Vec<Entry>, bool), Failure> {
+        if let Some(slot) = slot_number(word) {
+            return Ok((vec![self.in_slot(slot, word)?], false));
+        }
+        let name = file_name::padded(self.kind, word);
+        let called = self.called(&name);
+        if called.is_empty() && is_pattern(word) {
+            return Ok((self.matching(word)?, true));
+        }
+        let found = self.image.find(&name, self.meant(&called, word)?);
+        let entry = found.and_then(|slot| self.image.list(slot));
+        Ok((vec![entry.map_err(|refusal| self.refused(word, refusal))?], false))
+    }
+
+    /// The file in a slot.
+    fn in_slot(&self, slot: Slot, word: &str) -> Result<Entry, Failure> {
+        let entry =
+            self.image.list(slot).map_err(|refusal| Failure::refused(self.about, refusal).on(word))?;
+        if self.is_asked(&entry) {
+            return Ok(entry);
+        }
+        let words = format!("its file is of type {}, not{}", self.told(entry.file_type), self.of_type());
+        let advice = "Give the type that the slot has, or the slot alone.";
+        Err(Failure::declined(self.about, words, advice).on(word))
+    }
+
+    /// The files with a name, of whatever type, by their slots. The library is asked for each type that a slot has: it
+    /// says which spellings are one name.
+    fn called(&self, name: &str) -> Vec<Entry> {
+        let types = directory::types(self.kind, self.image.bytes()).into_iter();
+        let slots = types.filter_map(|file_type| self.image.find(name, file_type).ok());
+        let mut entries: Vec<Entry> = slots.filter_map(|slot| self.image.list(slot).ok()).collect();
+        entries.sort_by_key(|entry| entry.slot);
+        entries
+    }
+
+    /// The type of the file that is meant by a name, which some files have.
+    fn meant(&self, called: &[Entry], name: &str) -> Result<u8, Failure> {
+        let sample = file_type::of_samples(self.kind);
+        let is_sample = |entry: &Entry| entry.file_type == sample;
+        match (self.asked, called) {
+            (Some(file_type), _) => Ok(file_type),
+            (None, []) => Ok(sample), // as good as any: no file has the name
+            (None, [only]) => Ok(only.file_type),
+            (None, several) if self.samples_first && several.iter().any(is_sample) => Ok(sample),
+            (None, several) => Err(self.ambiguous(several, name)),
+        }
+    }
+
+    /// Several files have a name: all are told.
+    fn ambiguous(&self, entries: &[Entry], name: &str) -> Failure {
+        let one = |entry: &Entry| {
+            let length = counting(entry.length, "byte");
+            format!("{} {}, {length}", entry.slot, self.told(entry.file_type))
+        };
+        let all = entries.iter().map(one).collect::<Vec<String>>().join("; ");
+        let words = format!("{} files have the name, say which by --type or '#SLOT': {all}", entries.len());
+        let (letter, slot) = (entries[0].letter(), entries[0].slot);
+        let advice =
+            format!("Give the type of the file that is meant, as --type {letter}, or its slot, as '{slot}'.");
+        Failure::declined(self.about, words, advice).on(name).between(ls::array(entries))
+    }
+
+    /// The files that a pattern matches.
+    fn matching(&self, pattern: &str) -> Result<Vec<Entry>, Failure> {
+        let folded = file_name::folded(self.kind, pattern);
+        let mut entries = self.all()?;
+        entries.retain(|entry| matches(&folded, entry.name.trim_end()));
+        if entries.is_empty() {
+            let words = format!("no file{} has such a name", self.of_type());
+            let advice = "List the disk to see its names, types and slots.";
+            return Err(Failure::declined(self.about, words, advice).on(pattern));
+        }
+        Ok(entries)
+    }
+
+    /// The refusal of a name, with the type that was asked for.
+    fn refused(&self, name: &str, refusal: Refusal) -> Failure {
+        if refusal.number() == 10 {
+            let words = format!("{}{}", refusal.words(), self.of_type());
+            return Failure::refused_as(self.about, refusal, words).on(name);
+        }
+        file_name::refused(self.about, self.kind, name, refusal)
+    }
+
+    fn is_asked(&self, entry: &Entry) -> bool {
+        self.asked.is_none_or(|file_type| entry.file_type == file_type)
+    }
+
+    fn told(&self, file_type: u8) -> String {
+        file_type::told(self.kind, file_type)
+    }
+
+    /// The type that is asked for, in words; nothing where none is.
+    fn of_type(&self) -> String {
+        self.asked.map_or(String::new(), |file_type| format!(" of type {}", self.told(file_type)))
     }
 }
 
@@ -110,100 +208,4 @@ pub fn matches(pattern: &str, name: &str) -> bool {
         }
     }
     pattern[at..].iter().all(|&byte| byte == b'*')
-}
-
-/// A refusal about a name or a type, in the words of the disk's kind.
-pub fn refused_name(about: &str, kind: Kind, name: &str, refusal: Refusal) -> Failure {
-    match (refusal.number(), bad_character(kind, name)) {
-        (11, Some(words)) => Failure::refused_as(about, refusal, words).on(name),
-        _ => Failure::refused(about, refusal).on(name),
-    }
-}
-
-/// What is wrong with a name on a kind of disk, and the rule; None if it is legal.
-pub fn bad_character(kind: Kind, name: &str) -> Option<String> {
-    let most = kind.name_length();
-    let rule = match kind {
-        Kind::S900 => "characters of ASCII, space to ~",
-        Kind::S1000 | Kind::S3000 => "of 0-9, A-Z (small letters are taken as capitals), space and # + - .",
-    };
-    let rule = format!("an {kind} name has at most {most} {rule}");
-    let legal = |character: &char| match kind {
-        Kind::S900 => matches!(character, ' '..='~'),
-        Kind::S1000 | Kind::S3000 => {
-            character.is_ascii_alphanumeric() || matches!(character, ' ' | '#' | '+' | '-' | '.')
-        }
-    };
-    let length = name.trim_end().chars().count();
-    match name.chars().position(|character| !legal(&character)) {
-        Some(at) => {
-            let character = name.chars().nth(at).unwrap_or_default();
-            Some(format!("the name's character {character:?} ({} of {length}) isn't legal: {rule}", at + 1))
-        }
-        None if length > most => Some(format!("the name has {length} characters: {rule}")),
-        None => None,
-    }
-}
-
-#[cfg(test)]
-mod tests {
-    use super::*;
-
-    #[test]
-    fn slots_and_names_are_told_apart() {
-        assert_eq!(slot_number("#12"), Some(Slot(12)));
-        assert_eq!(slot_number("#99999999999999999999999"), Some(Slot(usize::MAX)));
-        assert_eq!([slot_number("12"), slot_number("#"), slot_number("#1 "), slot_number("#+1")], [None; 4]);
-    }
-
-    #[test]
-    fn patterns_match_whole_names() {
-        let yes = [
-            ("*", ""),
-            ("*", "A"),
-            ("A*", "A"),
-            ("A*C", "ABC"),
-            ("*B*", "ABC"),
-            ("A??", "ABC"),
-            ("*A*AB", "AAAAB"),
-        ];
-        let no =
-            [("?", ""), ("A", "AB"), ("A?", "A"), ("a*", "A"), ("*A", "AB"), ("", "A"), ("*AB*AB", "AB")];
-        yes.iter().for_each(|(pattern, name)| assert!(matches(pattern, name), "{pattern} {name}"));
-        no.iter().for_each(|(pattern, name)| assert!(!matches(pattern, name), "{pattern} {name}"));
-    }
-
-    /// Small letters of a pattern stand for capitals where the disk has no others.
-    #[test]
-    fn patterns_are_folded_for_an_s1000_and_an_s3000() {
-        for (pattern, s900, s1000) in
-            [("b*", false, true), ("B*", true, true), ("bAsS ??", false, true), ("BASS C?", true, true)]
-        {
-            assert_eq!(matches(&folded(Kind::S900, pattern), "BASS C2"), s900, "{pattern}");
-            for kind in [Kind::S1000, Kind::S3000] {
-                assert_eq!(matches(&folded(kind, pattern), "BASS C2"), s1000, "{pattern}");
-            }
-        }
-        assert_eq!(folded(Kind::S1000, "a\u{e9}#9"), "A\u{e9}#9"); // what has no code stays to be refused
-    }
-
-    #[test]
-    fn illegal_names_are_told_with_their_rule() {
-        assert_eq!(bad_character(Kind::S900, "a/b"), None);
-        assert_eq!(bad_character(Kind::S1000, "BASS C2"), None);
-        assert_eq!(bad_character(Kind::S1000, "abcxyz 09#+-"), None);
-        for around in ["@", "[", "`", "{", "\u{17f}"] {
-            assert!(bad_character(Kind::S1000, around).is_some(), "{around}");
-        }
-        let words = bad_character(Kind::S1000, "A/B").expect("a slash");
-        assert!(words.contains("'/' (2 of 3)") && words.contains("S1000"), "{words}");
-        let words = bad_character(Kind::S900, "12345678901").expect("too long");
-        assert!(words.contains("11 characters"), "{words}");
-        let words = bad_character(Kind::S3000, "A/B").expect("a slash");
-        assert!(
-            words.contains("'/' (2 of 3)") && words.contains("an S3000 name has at most 12 of"),
-            "{words}"
-        );
-        assert_eq!(bad_character(Kind::S3000, "abcxyz 09#+-"), None);
-    }
 }

@@ -23,7 +23,7 @@ fn put_and_rm_do_what_the_model_does() {
         let said = folder.sj(&["put", "a.img", "new", "--name", "NEW 1", "--type", file_type]).done();
         assert_eq!(said, format!("#{slot}\n"));
         assert!(folder.read("a.img") == image);
-        calls::remove(&mut image, name.as_bytes()).expect("there");
+        calls::remove(&mut image, name.as_bytes(), byte).expect("there");
         assert_eq!(folder.sj(&["rm", "a.img", "NEW 1"]).done(), "");
         assert!(folder.read("a.img") == image);
     }
@@ -48,7 +48,7 @@ fn refused_changes_leave_the_image() {
     put("a.img", "one", "NEW", "s").failed(1, &["the type 's' isn't legal", "one of A to Z", "refusal 11"]);
     put("a.img", "one", "NAME TOO LONG", "S").failed(1, &["13 characters", "at most 10", "refusal 11"]);
     put("a.img", "empty", "NEW", "S").failed(1, &["refusal 13"]);
-    put("a.img", "one", "A", "P").failed(1, &["refusal 12, slot 0"]);
+    put("a.img", "one", "A", "S").failed(1, &["refusal 12, slot 0"]);
     put("a.img", "long", "NEW", "S").failed(1, &["needs 801 blocks, and 795 blocks are free (refusal 15)"]);
     put("a.img", "one", "NEW", "SS").failed(2, &["one letter"]);
     put("a.img", "none", "NEW", "S").failed(2, &["none"]);
@@ -71,7 +71,7 @@ fn a_put_whose_slot_cant_be_told_says_that_it_was_done() {
     let mut command = folder.command(&["put", "a.img", "one", "--name", "A", "--type", "S"]);
     let ran = Ran::of(command.stdout(full).output().expect("sj runs"));
     ran.failed(2, &["1 file put into #0, but standard output"]);
-    assert_eq!(calls::find(&folder.read("a.img"), b"A         "), Ok(0));
+    assert_eq!(calls::find(&folder.read("a.img"), b"A         ", b'S'), Ok(0));
 }
 
 #[test]
@@ -100,7 +100,7 @@ fn rm_takes_slots() {
     fs::hard_link(folder.0.join("a.img"), folder.0.join("other.img")).expect("a link");
     folder.sj(&["rm", "a.img", "#1"]).done();
     assert!(folder.read("other.img") == image); // as the help says
-    calls::remove(&mut image, b"#0        ").expect("there");
+    calls::remove(&mut image, b"#0        ", b'S').expect("there");
     assert!(folder.read("a.img") == image);
     folder.sj(&["rm", "a.img", "#0"]).done();
     assert_eq!(calls::check(&folder.read("a.img")).expect("accepted").files, 0);
@@ -157,7 +157,7 @@ fn a_folder_whose_sync_fails_is_told() {
     };
     assert_eq!((ran.status, ran.out), (Some(0), b"#0\n".to_vec()));
     assert!(ran.err.contains("a.img is in place, but may not survive a power cut"), "{}", ran.err);
-    assert_eq!(calls::find(&folder.read("a.img"), b"A         "), Ok(0));
+    assert_eq!(calls::find(&folder.read("a.img"), b"A         ", b'S'), Ok(0));
     let draft = trace.lines().find(|line| line.contains("/.sj-")).expect("a draft");
     assert!(draft.contains("0600"), "{draft}");
 }

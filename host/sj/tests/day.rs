@@ -62,13 +62,13 @@ fn many_files_are_put_or_none() {
     folder.write("LONG.S", &[1; 900_000]);
     folder.write("plain", b"x");
     for (last, status, words) in [
-        ("OLD.S", 1, "OLD: the name is already used (refusal 12, slot 0)"),
+        ("OLD.S", 1, "OLD: a file of that type already has the name (refusal 12, slot 0)"),
         ("new.s", 1, "the type 's' isn't legal"),
         ("empty.S", 1, "refusal 13"),
         ("LONG.S", 1, "needs 879 blocks, and 792 blocks are free (refusal 15)"),
         ("plain", 2, "plain tells no name: call it NAME.t"),
         ("none.S", 2, "none.S"),
-        ("./NEW.S", 2, "NEW is the name of two of the files"),
+        ("./NEW.S", 2, "NEW is the name of two of the files of type S"),
     ] {
         folder.sj(&["put", "a.img", "NEW.S", last]).failed(status, &[words]);
         assert!(folder.read("a.img") == image, "{last}");
@@ -85,14 +85,14 @@ fn a_file_takes_anothers_place_in_one_step() {
     let folder = Folder::new("replace");
     let image = holding(&["A", "B"]);
     folder.write("a.img", &image);
-    folder.write("A.P", &[3; 2000]);
+    folder.write("A.S", &[3; 2000]);
     folder.write("B.S", &[4; 814_080]);
-    folder.sj(&["put", "a.img", "A.P"]).failed(1, &["refusal 12"]);
-    folder.sj(&["put", "a.img", "A.P", "B.S", "--replace"]).failed(1, &["B: it needs 795 blocks"]);
+    folder.sj(&["put", "a.img", "A.S"]).failed(1, &["refusal 12"]);
+    folder.sj(&["put", "a.img", "A.S", "B.S", "--replace"]).failed(1, &["B: it needs 795 blocks"]);
     assert!(folder.read("a.img") == image); // both old files are there
-    folder.sj(&["put", "a.img", "A.P", "--replace"]).done();
-    assert_eq!(held(&folder.read("a.img")), [("A".into(), 'P', 2000), ("B".into(), 'S', 3)]);
-    folder.sj(&["put", "a.img", "A.P", "--replace", "--name", "C"]).done(); // there is none to replace
+    folder.sj(&["put", "a.img", "A.S", "--replace"]).done();
+    assert_eq!(held(&folder.read("a.img")), [("A".into(), 'S', 2000), ("B".into(), 'S', 3)]);
+    folder.sj(&["put", "a.img", "A.S", "--replace", "--name", "C"]).done(); // there is none to replace
     assert_eq!(names(&folder.read("a.img")), ["A", "B", "C"]);
 }
 
@@ -106,7 +106,9 @@ fn a_file_gets_another_name() {
     folder.sj(&["mv", "a.img", "#0", "A"]).done();
     assert_eq!(held(&folder.read("a.img")), held(&image));
     let before = folder.read("a.img");
-    folder.sj(&["mv", "a.img", "A", "B"]).failed(1, &["B: the name is already used (refusal 12, slot 1)"]);
+    folder
+        .sj(&["mv", "a.img", "A", "B"])
+        .failed(1, &["B: a file of that type already has the name (refusal 12, slot 1)"]);
     folder.sj(&["mv", "a.img", "A", "a name too long"]).failed(1, &["15 characters", "refusal 11"]);
     folder.sj(&["mv", "a.img", "NONE", "C"]).failed(1, &["NONE", "refusal 10"]);
     folder.sj(&["mv", "a.img", "*", "C"]).failed(2, &["mv renames one file"]);

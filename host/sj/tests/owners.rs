@@ -29,7 +29,7 @@ fn untouched(folder: &Open) -> bool {
 
 /// Whether the image holds what was put into it.
 fn holds(folder: &Open, name: &str) -> bool {
-    calls::find(&folder.0.read("a.img"), format!("{name:10}").as_bytes()).is_ok()
+    calls::find(&folder.0.read("a.img"), format!("{name:10}").as_bytes(), b'S').is_ok()
 }
 
 fn forced(words: &[&'static str]) -> Vec<&'static str> {

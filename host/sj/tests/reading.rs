@@ -139,7 +139,8 @@ fn get_copies_whole_files() {
     for (slot, file) in read.files.iter().enumerate() {
         let Some(file) = file else { continue };
         let name = String::from_utf8(file.name.clone()).expect("ASCII");
-        folder.sj(&["get", "a.img", "-o", "by-name", "--", name.trim_end()]).done();
+        let file_type = char::from(file.file_type).to_string(); // another file may have the name
+        folder.sj(&["get", "a.img", "--type", &file_type, "-o", "by-name", "--", name.trim_end()]).done();
         assert!(folder.read("by-name") == content(&image, file));
         let ran = folder.sj(&["get", "a.img", &format!("#{slot}"), "-o", "-"]);
         assert!(ran.status == Some(0) && ran.out == content(&image, file));

@@ -128,8 +128,8 @@ fn what_is_no_type_is_told_with_the_rule() {
 fn names_are_those_of_an_s1000() {
     let folder = with("names", &two());
     folder.write("new", b"x");
-    let put = |name: &str| folder.sj(&["put", "a.img", "new", "--type", "S", "--name", name]);
-    put("kit").failed(1, &["kit: the name is already used (refusal 12, slot 1)"]);
+    let put = |name: &str| folder.sj(&["put", "a.img", "new", "--type", "P", "--name", name]);
+    put("kit").failed(1, &["kit: a file of that type already has the name (refusal 12, slot 1)"]);
     assert_eq!(folder.sj(&["mv", "a.img", "Kit", "kit 2"]).done(), "#1 [KIT 2]\n");
     let told = folder.sj(&["ls", "a.img"]).done();
     assert!(told.contains("  #1 P      450 [KIT 2       ]\n"), "{told}"); // the type stays
@@ -219,7 +219,7 @@ const MALFORMED: &str = "dropped: a slot of the directory is malformed";
 fn damaged() -> Vec<u8> {
     let mut image = two();
     for (slot, bytes) in [
-        (2, s3000_slot("KIT", S, 100, 30)),
+        (2, s3000_slot("KIT", P, 100, 30)),
         (100, s3000_slot("C", b'S', 1, 30)),
         (300, s3000_slot("D", S, 1, 30)),
         (510, s3000_slot("E", P, 3000, 30)),
@@ -243,7 +243,7 @@ fn a_statement_names_what_stood_in_the_slots() {
         "a.img: S3000 high, would be mended, nothing is written".to_string(),
         r#"  #0 S          2150 [BASS C2     ] kept"#.into(),
         r#"  #1 P           450 [KIT         ] kept"#.into(),
-        r#"  #2 S           100 [KIT         ] dropped: a name stands in the directory twice (refusal 5)"#.into(),
+        r#"  #2 P           100 [KIT         ] dropped: a name stands twice within one type (refusal 5)"#.into(),
         format!(r#"#100 "\x53"        1 [C           ] {MALFORMED} (refusal 4)"#),
         format!(r#"#300 S             1 [D           ] {MALFORMED}, its identity is 0,3 (refusal 4)"#),
         r#"#510 P          3000 [E           ] dropped: a file's chain of blocks is shorter or longer than the file (refusal 7)"#.into(),
@@ -299,7 +299,7 @@ fn samples_in_an_s1000s_form_are_unpacked() {
     own[16] = 0;
     let image = s3000(&[("ONE", S, &sample), ("OWN", S, &own), ("PROGRAM", P, &sample)]);
     let folder = with("unpack", &image);
-    let told = "OWN: as S1000 (first byte 3): 100 words said, 121 there; an S3000 sample's header, of 192 bytes, isn't read \
+    let told = "#1 [OWN]: as S1000 (first byte 3): 100 words said, 121 there; an S3000 sample's header, of 192 bytes, isn't read \
                 (refusal 18, offset 26)";
     let ran = folder.sj(&["unpack", "a.img", "--all", "-o", "wav"]);
     assert_eq!(String::from_utf8_lossy(&ran.out), "#0 [ONE] -> ONE.wav\n1 sample unpacked, 1 refused\n");

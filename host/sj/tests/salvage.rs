@@ -35,7 +35,7 @@ fn spoil(image: &mut [u8], layout: Layout, number: u32) {
         4 => set_slot(image, 2, 16, 255),
         5 => {
             let lower = slot_at(image, 1, 0);
-            image.copy_within(lower..lower + 16, lower + 24);
+            image.copy_within(lower..lower + 16, lower + 24); // all four have one type
         }
         6 => set_map(image, block, 1),
         7 => set_map(image, block, layout.end_mark()),
@@ -48,7 +48,7 @@ fn spoil(image: &mut [u8], layout: Layout, number: u32) {
 
 const WORDS: [(u32, &str); 5] = [
     (4, "a slot of the directory is malformed"),
-    (5, "a name stands in the directory twice"),
+    (5, "a name stands twice within one type"),
     (6, "a file's chain of blocks leaves the data area"),
     (7, "a file's chain of blocks is shorter or longer than the file"),
     (8, "a file shares a block with a file in a lower slot"),

@@ -43,7 +43,7 @@ fn disk(random: &mut Random) -> (Vec<u8>, Vec<Vec<u8>>) {
 }
 
 const BROKEN: &str =
-    "a.img: BROKEN: as S1000 (first byte 3): loop mode is 7, not 0 to 3 (refusal 18, offset 19)";
+    "a.img: #2 [BROKEN]: as S1000 (first byte 3): loop mode is 7, not 0 to 3 (refusal 18, offset 19)";
 
 /// The words of an S1000 sample file.
 fn words(file: &[u8]) -> Vec<u8> {
@@ -69,7 +69,7 @@ fn a_sample_is_unpacked_straight_from_an_image() {
     folder.sj(&["unpack", "a.img", "BROKEN"]).failed(1, &[BROKEN]);
     folder
         .sj(&["unpack", "a.img", "PIANO"])
-        .failed(1, &["PIANO: as S900 (first byte not 3): ", "refusal 18"]);
+        .failed(1, &["#1 [PIANO]: as S900 (first byte not 3): ", "refusal 18"]);
     folder.sj(&["unpack", "a.img", "NONE"]).failed(1, &["NONE", "refusal 10"]);
     folder.sj(&["unpack", "a.img", "#0", "-o", "a.img"]).failed(2, &["a.img is the file that is read"]);
     folder.sj(&["unpack", "a.img", "-o", "b.wav"]).failed(2, &["a.img is an image", "--all"]);

@@ -42,7 +42,8 @@ fn an_s1000_disk_has_one_name_for_all_spellings() {
             assert_eq!(got(&folder, name), "one");
         }
         let before = folder.read("a.img");
-        put("three", "bAsS C2", &[]).failed(1, &["bAsS C2: the name is already used (refusal 12, slot 1)"]);
+        put("three", "bAsS C2", &[])
+            .failed(1, &["bAsS C2: a file of that type already has the name (refusal 12, slot 1)"]);
         folder.sj(&["mv", "a.img", "Other", "bass c2"]).failed(1, &["refusal 12, slot 1"]);
         assert!(folder.read("a.img") == before);
         put("three", "bAsS C2", &["--replace"]).done();
@@ -63,7 +64,9 @@ fn files_of_many_spellings_are_put_on_an_s1000_disk() {
         folder.write(name, name.as_bytes());
     }
     let before = folder.read("a.img");
-    folder.sj(&["put", "a.img", "kick.s", "Kick.s"]).failed(2, &["KICK is the name of two of the files"]);
+    folder
+        .sj(&["put", "a.img", "kick.s", "Kick.s"])
+        .failed(2, &["KICK is the name of two of the files of type s"]);
     assert!(folder.read("a.img") == before);
     let told = folder.sj(&["put", "a.img", "kick.s", "Snare.p"]).done();
     assert_eq!(told, "kick.s -> #0 [KICK]\nSnare.p -> #1 [SNARE]\n");

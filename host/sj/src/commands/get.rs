@@ -3,17 +3,19 @@
 use super::into::Out;
 use crate::arguments::Arguments;
 use crate::failure::{Failure, counting, named};
+use crate::file_type::Typed;
 use crate::image_file::Opened;
+use crate::outside;
 use crate::progress::Progress;
 use crate::save::Draft;
-use crate::{outside, select};
+use crate::select::Files;
 use skilletjay::Entry;
 use std::path::{Path, PathBuf};
 
 /// Copies files out of an image.
 pub fn run(arguments: &mut Arguments) -> Result<(), Failure> {
     let (force, manner) = (arguments.flag("--force"), arguments.manner());
-    let to = arguments.value("-o").map(PathBuf::from);
+    let (to, typed) = (arguments.value("-o").map(PathBuf::from), Typed::asked(arguments)?);
     let path = arguments.path("the image")?;
     let about = named(&path);
     let opened = Opened::new(&path)?;
@@ -21,11 +23,11 @@ pub fn run(arguments: &mut Arguments) -> Result<(), Failure> {
     if arguments.flag("--all") {
         arguments.end()?;
         let folder = to.ok_or_else(|| Failure::usage("--all needs -o DIR"))?;
-        let entries = opened.image().entries().map_err(|refusal| Failure::refused(about, refusal))?;
+        let entries = Files::of(&about, &opened.image(), typed)?.all()?;
         return many(&out, opened, &entries, &folder);
     }
     let words = arguments.some("the file's name or '#slot'")?;
-    let chosen = select::chosen(&about, &opened.image(), words)?;
+    let chosen = Files::of(&about, &opened.image(), typed)?.chosen(words)?;
     match (&chosen.entries[..], chosen.single) {
         ([entry], true) => one(&out, opened, entry, to.as_deref()),
         (entries, _) => many(&out, opened, entries, to.as_deref().unwrap_or(Path::new("."))),
@@ -65,7 +67,7 @@ fn download(out: &Out, opened: &mut Opened, entry: &Entry, to: &Path) -> Result<
     }
     if !pages.is_complete() || pages.offset() != entry.length {
         let advice = "Tell the makers of this library, please: this can't be.";
-        return Err(Failure::declined(named(&out.path), "the file isn't complete", advice).on(&entry.name));
+        return Err(Failure::declined(named(&out.path), "the file isn't complete", advice).on_entry(entry));
     }
     draft.keep()
 }

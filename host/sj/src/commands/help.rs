@@ -11,8 +11,9 @@ use std::fmt::Write;
 /// What there is to know besides, a paragraph each.
 const NOTES: [&str; 4] = [
     "sj COMMAND --help tells a command's options; all take --json, --quiet and --explain.",
-    "Names are padded with spaces to the disk's length. '#0' is the file in slot 0. - as a file to read is standard \
-     input, and after -o standard output. -- ends the options, and --name=A is --name A.",
+    "Names are padded with spaces to the disk's length. A file is known by its name and its type; where several have a \
+     name, --type or the slot says which, '#0' for slot 0. - as a file to read is standard input, and after -o standard \
+     output. -- ends the options, and --name=A is --name A.",
     "An image is changed in a copy beside it, which then takes its place with owner, group, mode, ACL and extended \
      attributes: a run that fails leaves the image as it was, and of two runs at once one waits for the other. An \
      interrupted run may leave the copy, a hidden file .sj- and some numbers; the next run that changes the image \

@@ -35,8 +35,13 @@ fn in_lines(about: &str, checked: &Checked, entries: &[Entry]) -> String {
 }
 
 fn in_json(about: &str, checked: &Checked, entries: &[Entry]) -> String {
-    let entries: Vec<String> = entries.iter().map(|entry| fields(Object::new(), entry).inline()).collect();
-    check::object(about, checked).raw("entries", format!("[{}]", entries.join(","))).line()
+    check::object(about, checked).raw("entries", array(entries)).line()
+}
+
+/// Files of a disk as an array of objects.
+pub fn array(entries: &[Entry]) -> String {
+    let objects: Vec<String> = entries.iter().map(|entry| fields(Object::new(), entry).inline()).collect();
+    format!("[{}]", objects.join(","))
 }
 
 /// A file of a disk as fields: its name without the padding and as it is stored, its type's letter and byte.

@@ -7,7 +7,7 @@ use crate::file_type::{self, Typed};
 use crate::image_file::{self, Changing};
 use crate::json::Object;
 use crate::manner::Manner;
-use crate::{output, select};
+use crate::{file_name, output};
 use skilletjay::{BLOCK, Entry, Image, Kind};
 use std::collections::HashSet;
 use std::path::{Path, PathBuf};
@@ -37,9 +37,8 @@ pub fn run(arguments: &mut Arguments) -> Result<(), Failure> {
 
 /// The files that the command line names, read.
 fn new_files(arguments: &mut Arguments) -> Result<Vec<New>, Failure> {
-    let (name, file_type) = (arguments.value("--name"), arguments.value("--type"));
-    let name = name.map(|name| text("name", name)).transpose()?;
-    let file_type = file_type.map(|word| text("type", word)).transpose()?;
+    let name = arguments.value("--name").map(|name| text("name", name)).transpose()?;
+    let file_type = Typed::asked(arguments)?;
     let words = arguments.some("the file")?;
     if words.len() > 1 && (name.is_some() || file_type.is_some()) {
         return Err(Failure::usage("--name and --type are for one file; several are called NAME.t"));
@@ -49,10 +48,7 @@ fn new_files(arguments: &mut Arguments) -> Result<Vec<New>, Failure> {
         let (own_name, own_type) = split(&from);
         let name = name.clone().or(own_name).ok_or_else(|| unnamed(&from, "name", "--name NAME"))?;
         refuse_empty(arguments, &name)?;
-        let file_type = match &file_type {
-            Some(word) => Typed::of(word)?,
-            None => own_type.ok_or_else(|| unnamed(&from, "type", "--type T"))?,
-        };
+        let file_type = file_type.or(own_type).ok_or_else(|| unnamed(&from, "type", "--type T"))?;
         let content = image_file::read_up_to(&from, MOST)?;
         files.push(New { from, name, file_type, content });
     }
@@ -86,37 +82,41 @@ pub fn refuse_empty(arguments: &Arguments, name: &str) -> Result<(), Failure> {
 
 fn put_all(about: &str, image: &mut Image, files: &[New], replace: bool) -> Result<Vec<Entry>, Failure> {
     let kind = image.check().map_err(|refusal| Failure::refused(about, refusal))?.kind;
-    let kept = |file: &New| select::folded(kind, &select::padded(kind, &file.name));
-    let mut names = HashSet::new();
-    if let Some(twice) = files.iter().map(kept).find(|name| !names.insert(name.clone())) {
-        return Err(Failure::usage(format!("{} is the name of two of the files", plain(twice.trim_end()))));
+    let mut taken = HashSet::new();
+    for file in files {
+        let name = file_name::folded(kind, &file_name::padded(kind, &file.name));
+        let file_type = file.file_type.on(kind)?;
+        if !taken.insert((name.clone(), file_type)) {
+            let (name, file_type) = (plain(name.trim_end()), file_type::told(kind, file_type));
+            return Err(Failure::usage(format!(
+                "{name} is the name of two of the files of type {file_type}"
+            )));
+        }
     }
-    files.iter().map(|file| put_one(about, image, kind, file, replace)).collect()
+    let put = |file: &New| {
+        put_named(about, image, kind, (&file.name, file.file_type.on(kind)?), &file.content, replace)
+    };
+    files.iter().map(put).collect()
 }
 
-fn put_one(about: &str, image: &mut Image, kind: Kind, file: &New, replace: bool) -> Result<Entry, Failure> {
-    let file_type = file.file_type.on(kind)?;
-    if replace && image.find(select::padded(kind, &file.name)).is_ok() {
-        image
-            .remove(select::padded(kind, &file.name))
-            .map_err(|refusal| select::refused_name(about, kind, &file.name, refusal))?;
-    }
-    put_named(about, image, kind, (&file.name, file_type), &file.content)
-}
-
-/// Puts a content under a name and a type, or says in the disk's terms what is wrong.
+/// Puts a content under a name and a type, with `replace` in the place of the file that has both; or says in the disk's
+/// terms what is wrong.
 pub fn put_named(
     about: &str,
     image: &mut Image,
     kind: Kind,
     (name, file_type): (&str, u8),
     content: &[u8],
+    replace: bool,
 ) -> Result<Entry, Failure> {
-    let put = image.put(select::padded(kind, name), file_type, content).and_then(|slot| image.list(slot));
+    let padded = file_name::padded(kind, name);
+    if replace {
+        let _ = image.remove(&padded, file_type); // there may be none; what isn't legal is told below
+    }
+    let put = image.put(&padded, file_type, content).and_then(|slot| image.list(slot));
     put.map_err(|refusal| match refusal.number() {
-        11 if select::bad_character(kind, name).is_none() => {
-            let words = file_type::bad_type(kind, file_type).unwrap_or_default();
-            Failure::refused_as(about, refusal, words).on(name)
+        11 if file_name::bad_character(kind, name).is_none() => {
+            file_type::refused(about, kind, file_type, refusal).on(name)
         }
         14 => {
             let words = format!("all {} slots are used", kind.slots());
@@ -128,7 +128,7 @@ pub fn put_named(
             let (free, are) = (counting(free, "block"), if free == 1 { "is" } else { "are" });
             Failure::refused_as(about, refusal, format!("it needs {needs}, and {free} {are} free")).on(name)
         }
-        _ => select::refused_name(about, kind, name, refusal),
+        _ => file_name::refused(about, kind, name, refusal),
     })
 }
 

@@ -85,7 +85,13 @@ const TYPE: Flag = Flag {
     value: Some("T"),
     about: "the type, a letter; on an S3000 disk also its number, as S or 211",
 };
-const REPLACE: Flag = Flag { name: "--replace", value: None, about: "take the place of a file of that name" };
+const OF_TYPE: Flag = Flag {
+    name: "--type",
+    value: Some("T"),
+    about: "files of this type alone, a letter; on an S3000 disk also its number",
+};
+const REPLACE: Flag =
+    Flag { name: "--replace", value: None, about: "take the place of a file of that name and type" };
 const EMPTY: Flag = Flag { name: "--allow-empty-name", value: None, about: "take a name of spaces alone" };
 const ALL_SAMPLES: Flag =
     Flag { name: "--all", value: None, about: "every sample, into the folder that -o names" };
@@ -123,13 +129,18 @@ pub const COMMANDS: [Command; 12] = [
     },
     Command {
         name: "get",
-        usage: &["sj get IMAGE NAME|'#SLOT'.. [-o FILE|DIR]", "sj get IMAGE --all -o DIR"],
+        usage: &[
+            "sj get IMAGE NAME|'#SLOT'.. [--type T] [-o FILE|DIR]",
+            "sj get IMAGE --all [--type T] -o DIR",
+        ],
         about: "Copies files out of an image, whole or not at all",
-        flags: &[&TO, &ALL, &FORCE_OUT],
-        notes: "'#0' is the file in slot 0 (in quotes, as a shell takes # for a comment). * and ? in a name stand for any \
-                characters and for one. On an S1000 or S3000 disk small letters stand for capitals, in patterns too; S900 \
-                names keep their case. Without -o a file gets its name and its type, NAME.t (NAME.S of an S3000's \
-                type S (211)), and replaces nothing that is there but by --force. Of several files -o names the folder.",
+        flags: &[&TO, &ALL, &OF_TYPE, &FORCE_OUT],
+        notes: "'#0' is the file in slot 0 (in quotes, as a shell takes # for a comment). Files of different types may \
+                have one name; then --type or the slot says which is meant. * and ? in a name stand for any characters and \
+                for one, and take files of all types, with --type those of one. On an S1000 or S3000 disk small letters \
+                stand for capitals, in patterns too; S900 names keep their case. Without -o a file gets its name and its \
+                type, NAME.t (NAME.S of an S3000's type S (211)), and replaces nothing that is there but by --force. Of \
+                several files -o names the folder.",
         run: get::run,
     },
     Command {
@@ -137,28 +148,31 @@ pub const COMMANDS: [Command; 12] = [
         usage: &["sj put IMAGE FILE.. [--replace]", "sj put IMAGE FILE [--name NAME] [--type T] [--replace]"],
         about: "Puts files into an image, all or none, and tells their slots",
         flags: &[&NAME, &TYPE, &REPLACE, &EMPTY, &FORCE_IN, &TIMEOUT],
-        notes: "Name and type are those of a file called NAME.t, as get writes it, or for one file what the options \
-                say. An S1000 or S3000 disk keeps a name in capitals, however it is typed; an S900 disk keeps its case. \
-                A type is A to Z on an S900 disk, a to z on an S1000 disk, A (193) to Z (218) on an S3000 disk. With \
-                --replace a file that has the name goes when its successor is in; if that is refused it stays.",
+        notes: "Name and type are those of a file called NAME.t, as get writes it, or for one file what the options say. \
+                An S1000 or S3000 disk keeps a name in capitals, however it is typed; an S900 disk keeps its case. A type \
+                is A to Z on an S900 disk, a to z on an S1000 disk, A (193) to Z (218) on an S3000 disk. Names need differ \
+                only within one type. With --replace a file that has name and type goes when its successor is in; if that \
+                is refused it stays.",
         run: put::run,
     },
     Command {
         name: "mv",
-        usage: &["sj mv IMAGE OLD NEW"],
+        usage: &["sj mv IMAGE OLD NEW [--type T] [--replace]"],
         about: "Gives a file another name",
-        flags: &[&REPLACE, &EMPTY, &FORCE_IN, &TIMEOUT],
-        notes: "OLD is a name or a slot, as '#0'. An S1000 or S3000 disk keeps NEW in capitals. The content and the type \
-                stay; the slot may be another, and is told.",
+        flags: &[&OF_TYPE, &REPLACE, &EMPTY, &FORCE_IN, &TIMEOUT],
+        notes: "OLD is a name or a slot, as '#0'; where several files have the name, --type or the slot says which. An \
+                S1000 or S3000 disk keeps NEW in capitals. The content and the type stay; the slot may be another, and is \
+                told. With --replace the file that has NEW and that type already goes.",
         run: change::rename,
     },
     Command {
         name: "rm",
-        usage: &["sj rm IMAGE NAME|'#SLOT'.."],
+        usage: &["sj rm IMAGE NAME|'#SLOT'.. [--type T]"],
         about: "Removes files from an image, all or none",
-        flags: &[&FORCE_IN, &TIMEOUT],
-        notes: "'#0' is the file in slot 0; * and ? in a name stand for any characters and for one. On an S1000 or S3000 \
-                disk small letters stand for capitals.",
+        flags: &[&OF_TYPE, &FORCE_IN, &TIMEOUT],
+        notes: "'#0' is the file in slot 0. Where several files have a name, --type or the slot says which is meant. * and \
+                ? in a name stand for any characters and for one, and take files of all types, with --type those of one. \
+                On an S1000 or S3000 disk small letters stand for capitals.",
         run: change::remove,
     },
     Command {
@@ -182,17 +196,17 @@ pub const COMMANDS: [Command; 12] = [
         name: "unpack",
         usage: &[
             "sj unpack SAMPLE -o FILE.wav",
-            "sj unpack IMAGE NAME|'#SLOT'.. [-o FILE.wav|DIR]",
-            "sj unpack IMAGE --all -o DIR",
+            "sj unpack IMAGE NAME|'#SLOT'.. [--type T] [-o FILE.wav|DIR]",
+            "sj unpack IMAGE --all [--type T] -o DIR",
         ],
         about: "Makes WAV files of samples, of a sample file or straight from an image",
-        flags: &[&TO, &ALL_SAMPLES, &FORCE_OUT],
+        flags: &[&TO, &ALL_SAMPLES, &OF_TYPE, &FORCE_OUT],
         notes: "One argument is a sample file; more are an image and its samples, by name, '#slot' or pattern as for get. \
-                --all takes the files of type s on an S1000 disk, S on an S900's, S (211) on an S3000's; a sample in the \
-                S3000's own form, with a header of 192 bytes, is refused. Without -o a sample gets NAME.wav, and \
-                replaces nothing that is there but by --force. Of several samples one that is refused is told and passed \
-                over, and a closing line counts. Root note and loops go into a smpl chunk. The 12 bits of an S900 word \
-                are the upper of 16.",
+                A name that several files have is the sample's. --all takes the files of type s on an S1000 disk, S on an \
+                S900's, S (211) on an S3000's, or of the type that --type says; a sample in the S3000's own form, with a \
+                header of 192 bytes, is refused. Without -o a sample gets NAME.wav, and replaces nothing that is there but \
+                by --force. Of several samples one that is refused is told and passed over, and a closing line counts. \
+                Root note and loops go into a smpl chunk. The 12 bits of an S900 word are the upper of 16.",
         run: samples::unpack,
     },
     Command {

@@ -1,7 +1,7 @@
 //! A sample's header, whichever sampler's: its fields, and the markers that must lie within the words.
 
 use crate::failure::counting;
-use crate::{akaii, select};
+use crate::{akaii, file_name};
 use skilletjay::{SampleKind, sample};
 
 /// The header of a sample file that the library accepts.
@@ -88,7 +88,7 @@ impl Header {
     /// Sets the name, which is legal for the kind, and pads it. An S1000's is in capitals.
     pub fn set_name(&mut self, name: &str) {
         let disk = self.kind.disk();
-        let (at, name) = (self.fields().name, select::folded(disk, name));
+        let (at, name) = (self.fields().name, file_name::folded(disk, name));
         let code = |byte: u8| match self.kind {
             SampleKind::S900 => byte,
             SampleKind::S1000 => akaii::code_of(byte).unwrap_or(0),

@@ -4,12 +4,14 @@ use super::{SHIFT, Sample, fields, read};
 use crate::arguments::Arguments;
 use crate::commands::into::Out;
 use crate::failure::{Failure, counting, named, plain};
+use crate::file_type::{self, Typed};
 use crate::image_file::{self, Opened};
 use crate::json::Object;
 use crate::progress::Progress;
+use crate::select::Files;
 use crate::wav::Wav;
-use crate::{input, output, outside, save, select};
-use skilletjay::{Entry, Image, Kind, SampleKind};
+use crate::{input, output, outside, save};
+use skilletjay::{Entry, Image, SampleKind};
 use std::path::{Path, PathBuf};
 
 /// Unpacks a sample file, or samples of an image, to WAV files.
@@ -23,6 +25,9 @@ fn from_file(arguments: &mut Arguments) -> Result<(), Failure> {
     let to = PathBuf::from(arguments.needed("-o")?);
     image_file::refuse_itself(&path, &to)?;
     let sample = sample_in(&path)?;
+    if arguments.flag("--type") {
+        return Err(Failure::usage("--type is for samples on an image, and a sample file has none"));
+    }
     let object = fields(Object::new().text("file", &named(&path)), &sample.header);
     save::save(&to, &wav_of(&named(&path), sample)?.to_bytes())?;
     if !manner.json || manner.quiet || input::is_standard(&to) {
@@ -43,6 +48,7 @@ fn sample_in(path: &Path) -> Result<Sample, Failure> {
 fn from_image(arguments: &mut Arguments) -> Result<(), Failure> {
     let to = arguments.value("-o").map(PathBuf::from);
     let (manner, force) = (arguments.manner(), arguments.flag("--force"));
+    let typed = Typed::asked(arguments)?;
     let path = arguments.path("the image")?;
     let opened = Opened::new(&path)?;
     let about = named(&path);
@@ -50,24 +56,23 @@ fn from_image(arguments: &mut Arguments) -> Result<(), Failure> {
     if arguments.flag("--all") {
         arguments.end()?;
         let folder = to.ok_or_else(|| Failure::usage("--all needs -o DIR"))?;
-        let entries = samples(&opened.image()).map_err(|refusal| Failure::refused(about, refusal))?;
+        let entries = samples(&about, &opened.image(), typed)?;
         return several(&out, opened, &entries, &folder);
     }
-    let chosen = select::chosen(&about, &opened.image(), arguments.some("the sample's name or '#slot'")?)?;
+    let words = arguments.some("the sample's name or '#slot'")?;
+    let chosen = Files::of(&about, &opened.image(), typed)?.samples_first().chosen(words)?;
     match (&chosen.entries[..], chosen.single) {
         ([entry], true) => one(&out, opened, entry, to.as_deref()),
         (entries, _) => several(&out, opened, entries, to.as_deref().unwrap_or(Path::new("."))),
     }
 }
 
-/// The files whose type is a sample's.
-fn samples(image: &Image<&[u8]>) -> Result<Vec<Entry>, skilletjay::Refusal> {
-    let file_type = match image.check()?.kind {
-        Kind::S900 => b'S',
-        Kind::S1000 => b's',
-        Kind::S3000 => b'S' + 128,
-    };
-    Ok(image.entries()?.into_iter().filter(|entry| entry.file_type == file_type).collect())
+/// The files whose type is a sample's, or the one that is asked for.
+fn samples(about: &str, image: &Image<&[u8]>, typed: Option<Typed>) -> Result<Vec<Entry>, Failure> {
+    let files = Files::of(about, image, typed)?;
+    let mut entries = files.all()?;
+    entries.retain(|entry| typed.is_some() || entry.file_type == file_type::of_samples(files.kind));
+    Ok(entries)
 }
 
 fn one(out: &Out, mut opened: Opened, entry: &Entry, to: Option<&Path>) -> Result<(), Failure> {
@@ -119,7 +124,7 @@ fn wav_on(out: &Out, opened: &mut Opened, entry: &Entry) -> Result<Vec<u8>, Fail
     opened.fetch_file(entry.slot)?;
     let file = opened.image().read(entry.slot).map_err(|refusal| Failure::refused(&about, refusal))?;
     let wav = Sample::of_bytes(&about, &file).and_then(|sample| wav_of(&about, sample));
-    wav.map(|wav| wav.to_bytes()).map_err(|failure| failure.on(&entry.name))
+    wav.map(|wav| wav.to_bytes()).map_err(|failure| failure.on_entry(entry))
 }
 
 /// A sample as a WAV file; an S900's words fill the upper bits.
