@@ -17,11 +17,11 @@ pub const MARGIN: usize = 17;
 pub enum Call {
     Check,
     List { slot: usize },
-    Find { name: Vec<u8> },
+    Find { name: Vec<u8>, file_type: u8 },
     Page { slot: usize, offset: usize, output: Vec<u8> },
     Blocks { slot: usize, output: Vec<u16> },
     Put { name: Vec<u8>, file_type: u8, content: Vec<u8> },
-    Remove { name: Vec<u8> },
+    Remove { name: Vec<u8>, file_type: u8 },
     Salvage { report: Vec<u8> },
     Run { script: Vec<u8>, pool: Vec<u8>, output: Vec<u8> },
     Unpack { kind: Kind, file: Vec<u8>, words: Vec<i16> },
@@ -33,6 +33,16 @@ impl Call {
     /// Whether it is made on an image, and not on a file.
     pub fn is_on_image(&self) -> bool {
         !matches!(self, Call::Unpack { .. } | Call::Pack { .. } | Call::Program { .. })
+    }
+
+    /// The name and the type by which it tells a file, if it does.
+    pub fn file(&self) -> Option<(&[u8], u8)> {
+        match self {
+            Call::Find { name, file_type }
+            | Call::Put { name, file_type, .. }
+            | Call::Remove { name, file_type } => Some((name, *file_type)),
+            _ => None,
+        }
     }
 }
 
@@ -90,7 +100,7 @@ pub fn by_library(call: &Call, image: &mut [u8]) -> Outcome {
     let given = match call {
         Call::Check => Given::Checked(lend::check(image)),
         Call::List { slot } => Given::Listed(lend::list(image, *slot)),
-        Call::Find { name } => Given::Found(lend::find(image, name)),
+        Call::Find { name, file_type } => Given::Found(lend::find(image, name, *file_type)),
         Call::Page { slot, offset, output } => {
             out.clone_from(output);
             Given::Paged(lend::page(image, *slot, *offset, lent(&mut out)))
@@ -100,7 +110,7 @@ pub fn by_library(call: &Call, image: &mut [u8]) -> Outcome {
             Given::Counted(lend::blocks(image, *slot, lent(&mut out_blocks)))
         }
         Call::Put { name, file_type, content } => Given::Found(lend::put(image, name, *file_type, content)),
-        Call::Remove { name } => Given::Done(lend::remove(image, name)),
+        Call::Remove { name, file_type } => Given::Done(lend::remove(image, name, *file_type)),
         Call::Salvage { report } => {
             out.clone_from(report);
             Given::Counted(lend::salvage(image, lent(&mut out)))
@@ -130,7 +140,7 @@ pub fn by_model(call: &Call, image: &mut [u8]) -> Outcome {
     let given = match call {
         Call::Check => Given::Checked(checked(calls::check(image))),
         Call::List { slot } => Given::Listed(listed(calls::list(image, *slot))),
-        Call::Find { name } => Given::Found(found(calls::find(image, name))),
+        Call::Find { name, file_type } => Given::Found(found(calls::find(image, name, *file_type))),
         Call::Page { slot, offset, output } => {
             out.clone_from(output);
             Given::Paged(paged(calls::page(image, *slot, *offset, lent(&mut out))))
@@ -142,7 +152,7 @@ pub fn by_model(call: &Call, image: &mut [u8]) -> Outcome {
         Call::Put { name, file_type, content } => {
             Given::Found(found(calls::put(image, name, *file_type, content)))
         }
-        Call::Remove { name } => Given::Done(done(calls::remove(image, name))),
+        Call::Remove { name, file_type } => Given::Done(done(calls::remove(image, name, *file_type))),
         Call::Salvage { report } => {
             out.clone_from(report);
             Given::Counted(counted(salvage::salvage(image, lent(&mut out))))
@@ -227,7 +237,7 @@ impl fmt::Display for Call {
         match self {
             Call::Check => write!(to, "check"),
             Call::List { slot } => write!(to, "list slot {slot}"),
-            Call::Find { name } => write!(to, "find {}", text(name)),
+            Call::Find { name, file_type } => write!(to, "find {} type {file_type}", text(name)),
             Call::Page { slot, offset, output } => {
                 write!(to, "page slot {slot} offset {offset} output {}", output.len() - 2 * MARGIN)
             }
@@ -237,7 +247,7 @@ impl fmt::Display for Call {
             Call::Put { name, file_type, content } => {
                 write!(to, "put {} type {file_type} content {}", text(name), content.len())
             }
-            Call::Remove { name } => write!(to, "remove {}", text(name)),
+            Call::Remove { name, file_type } => write!(to, "remove {} type {file_type}", text(name)),
             Call::Salvage { report } => write!(to, "salvage report {}", report.len() - 2 * MARGIN),
             Call::Run { script, pool, output } => {
                 let (script, pool, output) = (script.len(), pool.len(), output.len() - 2 * MARGIN);

@@ -2,6 +2,7 @@
 
 use crate::call::{Call, MARGIN, Outcome, by_library, by_model};
 use crate::salvages::{self, Before};
+use crate::types::{self, Asked};
 use crate::{disks, programs, samples, scripts, spellings};
 use model::layout::LAYOUTS;
 use model::random::Random;
@@ -70,6 +71,8 @@ pub struct Tally {
     pub layouts: [Refusals; LAYOUTS.len()],
     /// Those that met another spelling of their name.
     pub spellings: spellings::Counts,
+    /// What was met of names in several types.
+    pub types: types::Counts,
     /// What salvages did.
     pub salvages: salvages::Counts,
 }
@@ -86,6 +89,7 @@ impl Tally {
         let mores = other.refusals.iter().chain(other.layouts.iter().flatten());
         sums.zip(mores).for_each(|(sum, more)| *sum += more);
         self.spellings.iter_mut().zip(&other.spellings).for_each(|(sum, more)| sum.add(more));
+        self.types.iter_mut().zip(&other.types).for_each(|(sum, more)| sum.add(more));
         self.salvages.iter_mut().zip(&other.salvages).for_each(|(sum, more)| sum.add(more));
     }
 }
@@ -108,6 +112,8 @@ struct Seen {
     layout: Option<usize>,
     /// On which the call's name stands in another spelling.
     respelt: Option<usize>,
+    /// What the call's name and type are there; of a script, those of each call.
+    asked: Vec<Option<Asked>>,
     /// If the call is a salvage.
     mended: Option<Before>,
 }
@@ -127,19 +133,20 @@ impl Drop for Panicked {
 pub fn run(seed: u64) -> Ran {
     let _panicked = Panicked(Sort::Any, seed);
     let (mut case, mut random) = (Case::new(Sort::Any, seed), Random::new(seed));
-    match random.below(16) {
+    match random.below(17) {
         0..=2 => disks::scattered(&mut case, &mut random)?,
         3 | 4 => disks::near_full(&mut case, &mut random)?,
         5 => disks::full_directory(&mut case, &mut random)?,
-        6 => disks::faults(&mut case, &mut random)?,
-        7 => disks::damage(&mut case, &mut random)?,
-        8 => disks::wrecked(&mut case, &mut random)?,
-        9 => disks::noise(&mut case, &mut random)?,
-        10 => scripts::run(&mut case, &mut random)?,
-        11 => samples::whole(&mut case, &mut random)?,
-        12 => samples::headers(&mut case, &mut random)?,
-        13 => samples::wrapping(&mut case, &mut random)?,
-        14 => programs::damaged(&mut case, &mut random)?,
+        6 => disks::shared(&mut case, &mut random)?,
+        7 => disks::faults(&mut case, &mut random)?,
+        8 => disks::damage(&mut case, &mut random)?,
+        9 => disks::wrecked(&mut case, &mut random)?,
+        10 => disks::noise(&mut case, &mut random)?,
+        11 => scripts::run(&mut case, &mut random)?,
+        12 => samples::whole(&mut case, &mut random)?,
+        13 => samples::headers(&mut case, &mut random)?,
+        14 => samples::wrapping(&mut case, &mut random)?,
+        15 => programs::damaged(&mut case, &mut random)?,
         _ => programs::pairs(&mut case, &mut random)?,
     }
     Ok(case.tally)
@@ -180,6 +187,13 @@ impl Case {
         &self.model[MARGIN..self.model.len() - MARGIN]
     }
 
+    /// Counts a file that stayed as it was when another of its name was removed.
+    pub fn count_stayed(&mut self) {
+        if let Some(layout) = spellings::layout_of(self.image()) {
+            self.tally.types[layout].stayed += 1;
+        }
+    }
+
     /// Changes the image of the next calls.
     pub fn change(&mut self, mut change: impl FnMut(&mut [u8])) {
         let end = self.model.len() - MARGIN;
@@ -192,9 +206,11 @@ impl Case {
         let end = self.model.len().saturating_sub(MARGIN);
         let start = MARGIN.min(end);
         let image = &self.model[start..end];
+        let layout = spellings::layout_of(image).filter(|_| call.is_on_image());
         let seen = Seen {
-            layout: spellings::layout_of(image).filter(|_| call.is_on_image()),
+            layout,
             respelt: spellings::met(call, image),
+            asked: layout.map_or(Vec::new(), |at| types::asked(call, image, LAYOUTS[at])),
             mended: salvages::before(call, image),
         };
         let lent = call.clone();
@@ -225,6 +241,9 @@ impl Case {
         self.tally.refusals[refusal as usize] += 1;
         if let Some(layout) = seen.layout {
             self.tally.layouts[layout][refusal as usize] += 1;
+            self.tally.types[layout].count(&seen.asked, outcome);
+            let image = &self.model[MARGIN..self.model.len() - MARGIN];
+            self.tally.types[layout].count_check(image, LAYOUTS[layout], &outcome.given);
         }
         if let Some(layout) = seen.respelt {
             spellings::count(&mut self.tally.spellings, layout, call, refusal);

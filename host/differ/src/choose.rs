@@ -1,8 +1,8 @@
 //! Arguments, legal and not.
 
 use crate::call::{Call, MARGIN};
-use model::disk::Disk;
-use model::layout::{BLOCK, Kind, Layout};
+use model::disk::{Disk, File};
+use model::layout::{BLOCK, Layout};
 use model::maker::{legal_name, legal_type, respelt};
 use model::random::Random;
 
@@ -31,18 +31,31 @@ pub fn near(due: usize, random: &mut Random) -> usize {
     }
 }
 
-/// A name: one on the disk, often the last slot's, to the letter or in another spelling, a new one, or an illegal one.
-pub fn name(layout: Layout, disk: Option<&Disk>, random: &mut Random) -> Vec<u8> {
-    let mut name = legal_name(layout.kind, random);
-    let slot = if random.one_in(8) { layout.slots() - 1 } else { random.below(layout.slots()) };
+/// A name and a type: those of a file on the disk, the name to the letter or in another spelling; its name in any type; new ones; or
+/// illegal ones.
+pub fn file(layout: Layout, disk: Option<&Disk>, random: &mut Random) -> (Vec<u8>, u8) {
+    let (mut name, mut file_type) = (legal_name(layout.kind, random), legal_type(layout.kind, random));
     if random.one_in(2)
-        && let Some(file) = disk.and_then(|disk| disk.file(slot))
+        && let Some(file) = disk.and_then(|disk| some_file(disk, random))
     {
         name.clone_from(&file.name);
+        file_type = if random.one_in(4) { file_type } else { file.file_type };
     }
     if random.one_in(3) {
         name = respelt(&name, random);
     }
+    (some_name(name, random), some_type(file_type, random))
+}
+
+/// A file on the disk, if there is one, and often the last.
+fn some_file<'a>(disk: &'a Disk, random: &mut Random) -> Option<&'a File> {
+    let slots = used(disk);
+    let last = slots.last().filter(|_| random.one_in(8));
+    disk.file(*last.or_else(|| slots.get(random.below(slots.len())))?)
+}
+
+/// A legal name, now and then made an illegal one.
+fn some_name(mut name: Vec<u8>, random: &mut Random) -> Vec<u8> {
     match random.below(30) {
         0 => name.truncate(random.below(name.len())),
         1 => name.push(b' '),
@@ -62,12 +75,15 @@ pub fn name(layout: Layout, disk: Option<&Disk>, random: &mut Random) -> Vec<u8>
     name
 }
 
-/// A type, mostly legal.
-pub fn file_type(kind: Kind, random: &mut Random) -> u8 {
+/// A legal type; now and then any, one at the ends of a kind's, or the same letter as another kind has it.
+fn some_type(file_type: u8, random: &mut Random) -> u8 {
     match random.below(30) {
         0 => random.byte(),
-        1 | 2 => random.pick(&[0, 64, 65, 83, 90, 91, 96, 97, 115, 122, 123, 192, 193, 211, 218, 219, 255]),
-        _ => legal_type(kind, random),
+        1 | 2 => {
+            random.pick(&[0, 0, 64, 65, 83, 90, 91, 96, 97, 115, 122, 123, 192, 193, 211, 218, 219, 255, 255])
+        }
+        3 | 4 => file_type ^ random.pick(&[32, 128, 160]),
+        _ => file_type,
     }
 }
 
@@ -144,11 +160,14 @@ fn content_length(free: usize, random: &mut Random) -> usize {
 
 /// Any call on a disk; `puts` of ten calls that change it put.
 pub fn call(layout: Layout, disk: Option<&Disk>, puts: usize, random: &mut Random) -> Call {
-    match random.below(12) {
+    match random.below(13) {
         0 => Call::Check,
         1 => Call::List { slot: slot(layout, disk, random) },
-        2 => Call::Find { name: name(layout, disk, random) },
-        3..=5 => {
+        2 | 3 => {
+            let (name, file_type) = file(layout, disk, random);
+            Call::Find { name, file_type }
+        }
+        4..=6 => {
             let slot = slot(layout, disk, random);
             let length = disk.and_then(|disk| disk.file(slot)).map_or(1500, |file| file.length);
             let offset = offset(length, random);
@@ -158,29 +177,32 @@ pub fn call(layout: Layout, disk: Option<&Disk>, puts: usize, random: &mut Rando
                 output: output(page_length(length.saturating_sub(offset), random), random),
             }
         }
-        6 => blocks(layout, disk, random),
-        7 => Call::Salvage { report: report(layout, random) },
+        7 => blocks(layout, disk, random),
+        8 => Call::Salvage { report: report(layout, random) },
         _ if random.below(10) < puts => {
             let length = content_length(disk.map_or(3, |disk| disk.free().len()), random);
-            let (name, file_type) = (name(layout, disk, random), file_type(layout.kind, random));
+            let (name, file_type) = file(layout, disk, random);
             Call::Put { name, file_type, content: random.bytes(length) }
         }
-        _ => Call::Remove { name: name(layout, disk, random) },
+        _ => {
+            let (name, file_type) = file(layout, disk, random);
+            Call::Remove { name, file_type }
+        }
     }
 }
 
 /// One call of each sort.
 pub fn each(layout: Layout, disk: Option<&Disk>, random: &mut Random) -> Vec<Call> {
     let (slot, offset) = (slot(layout, disk, random), offset(2000, random));
-    let (name, file_type) = (name(layout, disk, random), file_type(layout.kind, random));
+    let (name, file_type) = file(layout, disk, random);
     let content = random.below(3000);
     vec![
         Call::Check,
         Call::List { slot },
-        Call::Find { name: name.clone() },
+        Call::Find { name: name.clone(), file_type },
         Call::Page { slot, offset, output: output(random.below(3000), random) },
         blocks(layout, disk, random),
         Call::Put { name: name.clone(), file_type, content: random.bytes(content) },
-        Call::Remove { name },
+        Call::Remove { name, file_type },
     ]
 }

@@ -4,11 +4,12 @@ use crate::call::Call;
 use crate::case::{Case, Disagreement};
 use crate::choose;
 use crate::spellings::layout_of;
-use model::disk::{Disk, read};
-use model::faults::{FAULTS, damage as damage_bytes, spoil, wreck};
+use model::disk::{Disk, File, content, read};
+use model::faults::{FAULTS, Fault, damage as damage_bytes, share_name, spoil, wreck};
 use model::layout::{BLOCK, IGNORED, Kind, LAYOUTS, Layout, SLOTS, TYPE_AT};
 use model::maker::{self, Plan};
 use model::random::Random;
+use std::collections::BTreeMap;
 
 type Done = Result<(), Box<Disagreement>>;
 
@@ -124,6 +125,68 @@ pub fn faults(case: &mut Case, random: &mut Random) -> Done {
             case.call(&call)?;
         }
         mended(case, random)?;
+    }
+    Ok(())
+}
+
+/// Names that stand in several types: of two files of a name one is removed, and the other stays as it was. Then names that stand twice
+/// in one type.
+pub fn shared(case: &mut Case, random: &mut Random) -> Done {
+    let layout = random.pick(&LAYOUTS);
+    case.about(format!("names in several types on {layout:?}"));
+    let mut image = maker::disk(layout, Plan::any(layout, random), random);
+    for _ in 0..random.below(8) {
+        let Ok(disk) = read(&image) else { return Ok(()) };
+        share_name(&mut image, &disk, random);
+    }
+    case.lend(&image);
+    case.call(&Call::Check)?;
+    for _ in 0..12 {
+        let Ok(disk) = read(case.image()) else { return Ok(()) };
+        let Some((gone, stays)) = twins(&disk, random) else { return Ok(()) };
+        removed(case, &disk, gone, stays, random)?;
+    }
+    let good = case.image().to_vec();
+    let Ok(disk) = read(&good) else { return Ok(()) };
+    for fault in [Fault::NameTwice, Fault::NameBetween].repeat(3) {
+        let mut image = good.clone();
+        spoil(&mut image, &disk, fault, random);
+        case.lend(&image);
+        case.call(&Call::Check)?;
+        mended(case, random)?;
+    }
+    Ok(())
+}
+
+/// The slots of two files of one name, if there are such.
+fn twins(disk: &Disk, random: &mut Random) -> Option<(usize, usize)> {
+    let mut slots: BTreeMap<&[u8], Vec<usize>> = BTreeMap::new();
+    for slot in choose::used(disk) {
+        slots.entry(&disk.file(slot)?.name).or_default().push(slot);
+    }
+    let mut names: Vec<Vec<usize>> = slots.into_values().filter(|slots| slots.len() > 1).collect();
+    random.shuffle(&mut names);
+    let mut slots = names.pop()?;
+    random.shuffle(&mut slots);
+    Some((slots[0], slots[1]))
+}
+
+/// Removes one of two files of a name: it is found no more, and the other is, and pages as before. Then the name is put in that type
+/// again, twice.
+fn removed(case: &mut Case, disk: &Disk, gone: usize, stays: usize, random: &mut Random) -> Done {
+    let (Some(one), Some(other)) = (disk.file(gone), disk.file(stays)) else { return Ok(()) };
+    let find = |file: &File| Call::Find { name: file.name.clone(), file_type: file.file_type };
+    let remove = Call::Remove { name: one.name.clone(), file_type: one.file_type };
+    let before = content(case.image(), other);
+    for call in [find(one), find(other), remove.clone(), find(one), find(other), remove] {
+        case.call(&call)?;
+    }
+    downloads(case, disk, &[stays], 4, random)?;
+    assert!(content(case.image(), other) == before, "the file of another type changed");
+    case.count_stayed();
+    for _ in 0..2 {
+        let (name, content) = (one.name.clone(), random.within(1, 3000));
+        case.call(&Call::Put { name, file_type: one.file_type, content: random.bytes(content) })?;
     }
     Ok(())
 }

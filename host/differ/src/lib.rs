@@ -15,3 +15,4 @@ pub mod salvages;
 mod samples;
 mod scripts;
 pub mod spellings;
+pub mod types;

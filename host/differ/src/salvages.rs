@@ -3,7 +3,8 @@
 use crate::call::Call;
 use crate::spellings::layout_of;
 use model::calls::check;
-use model::layout::{BLOCK, LAYOUTS, Layout, MAP_AT, blocks_for};
+use model::layout::{BLOCK, LAYOUTS, Layout, MAP_AT, TYPE_AT, blocks_for};
+use std::collections::BTreeMap;
 
 /// What salvages did on one layout.
 #[derive(Clone, Copy, Debug, Default, PartialEq, Eq)]
@@ -12,8 +13,12 @@ pub struct Salvages {
     pub images: [usize; 10],
     /// Their slots, by what the report says of them.
     pub slots: [usize; 9],
-    /// Kept slots whose name a dropped lower slot had.
+    /// Kept slots whose name and type a dropped lower slot had.
     pub names: usize,
+    /// Kept slots whose name a kept lower slot has in another type.
+    pub types: usize,
+    /// Slots dropped by 5 whose name a kept lower slot has in another type too.
+    pub beside: usize,
     /// Kept slots with a block that a dropped lower slot's chain had.
     pub chains: usize,
     /// Images that were kept, since the report was too short.
@@ -49,18 +54,19 @@ pub fn count(counts: &mut Counts, before: &Before, refusal: u32, report: &[u8]) 
             let told = &report[..LAYOUTS[before.layout].slots()];
             told.iter().for_each(|&said| sum.slots[usize::from(said)] += 1);
             count_freed(sum, before, report);
+            count_types(sum, before, report);
         }
         21 => sum.short += 1,
         _ => {}
     }
 }
 
-/// Counts the kept slots that have a name or a block of a dropped lower one.
+/// Counts the kept slots that have name and type or a block of a dropped lower one.
 fn count_freed(sum: &mut Salvages, before: &Before, report: &[u8]) {
     let layout = LAYOUTS[before.layout];
     let (mut names, mut blocks) = (Vec::new(), vec![false; layout.blocks()]);
     for (slot, said) in report[..layout.slots()].iter().enumerate() {
-        let name = &before.head[layout.slot_at(slot)..][..16];
+        let name = &before.head[layout.slot_at(slot)..][..TYPE_AT + 1];
         let chain = chain(layout, &before.head, slot);
         match said {
             0 => {}
@@ -72,6 +78,25 @@ fn count_freed(sum: &mut Salvages, before: &Before, report: &[u8]) {
                 names.push(name);
                 chain.iter().for_each(|&block| blocks[block] = true);
             }
+        }
+    }
+}
+
+/// Counts the slots, kept or dropped by 5, whose name a kept lower slot has in another type.
+fn count_types(sum: &mut Salvages, before: &Before, report: &[u8]) {
+    let layout = LAYOUTS[before.layout];
+    let mut kept: BTreeMap<&[u8], Vec<u8>> = BTreeMap::new();
+    for (slot, said) in report[..layout.slots()].iter().enumerate() {
+        let (name, file_type) = before.head[layout.slot_at(slot)..][..TYPE_AT + 1].split_at(TYPE_AT);
+        let is_other = |types: &Vec<u8>| types.iter().any(|own| *own != file_type[0]);
+        let met = usize::from(kept.get(name).is_some_and(is_other));
+        match said {
+            1 => {
+                sum.types += met;
+                kept.entry(name).or_default().push(file_type[0]);
+            }
+            5 => sum.beside += met,
+            _ => {}
         }
     }
 }
@@ -95,6 +120,8 @@ impl Salvages {
         self.images.iter_mut().zip(other.images).for_each(|(sum, more)| *sum += more);
         self.slots.iter_mut().zip(other.slots).for_each(|(sum, more)| *sum += more);
         self.names += other.names;
+        self.types += other.types;
+        self.beside += other.beside;
         self.chains += other.chains;
         self.short += other.short;
     }

@@ -15,13 +15,13 @@ pub fn run(case: &mut Case, random: &mut Random) -> Result<(), Box<Disagreement>
     let layout = random.pick(&LAYOUTS);
     case.about(format!("scripts on {layout:?}"));
     case.lend(&maker::disk(layout, Plan::any(layout, random), random));
-    for _ in 0..12 {
-        if random.one_in(12) {
+    for _ in 0..24 {
+        if random.one_in(24) {
             case.change(|image| damage(image, layout, random));
         }
         let disk = read(case.image()).ok();
         let (mut script, mut pool) = (Vec::new(), Vec::new());
-        let calls = random.below(40);
+        let calls = random.below(60);
         for _ in 0..=calls {
             let call = choose::call(layout, disk.as_ref(), 6, random);
             script.extend(entry(&call, &mut pool, random));
@@ -51,8 +51,8 @@ fn entry(call: &Call, pool: &mut Vec<u8>, random: &mut Random) -> Vec<u8> {
         );
     }
     entry[0] = operation;
-    if let Call::Put { file_type, .. } = call {
-        entry[1] = *file_type;
+    if let Some((_, file_type)) = call.file() {
+        entry[1] = file_type;
     }
     entry
 }
@@ -68,8 +68,8 @@ fn fields(call: &Call, pool: &mut Vec<u8>, random: &mut Random) -> (u8, Vec<usiz
         Call::List { slot } | Call::Blocks { slot, .. } => (0, vec![*slot]),
         Call::Salvage { .. } => (0, vec![random.below(513)]),
         Call::Page { slot, offset, .. } => (1, vec![*slot, *offset]),
-        Call::Find { name } => (2, pooled(name).to_vec()),
-        Call::Remove { name } => (3, pooled(name).to_vec()),
+        Call::Find { name, .. } => (2, pooled(name).to_vec()),
+        Call::Remove { name, .. } => (3, pooled(name).to_vec()),
         Call::Put { name, content, .. } => (4, [pooled(name), pooled(content)].concat()),
         _ => (random.pick(&[0, 0, 0, 0, 0, 0, 0, 5, 255]), Vec::new()),
     }

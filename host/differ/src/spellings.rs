@@ -1,4 +1,4 @@
-//! How often calls give a name that differs from one on the disk in the case of letters alone.
+//! How often calls give a name that differs from one of the same type on the disk in the case of letters alone.
 
 use crate::call::Call;
 use model::layout::{IGNORED, Kind, LAYOUTS, SLOT_BYTES, TYPE_AT};
@@ -33,15 +33,15 @@ pub(crate) fn layout_of(image: &[u8]) -> Option<usize> {
         .position(|layout| image.len() == layout.image_bytes() && told(layout.kind, layout.identity()))
 }
 
-/// The layout of an image on which a call's name stands in another spelling, as its place in [`LAYOUTS`].
+/// The layout of an image on which a call's name stands in another spelling, in the call's type, as its place in [`LAYOUTS`].
 pub fn met(call: &Call, image: &[u8]) -> Option<usize> {
-    let (Call::Find { name } | Call::Put { name, .. } | Call::Remove { name }) = call else { return None };
+    let (name, file_type) = call.file()?;
     let at = layout_of(image)?;
     let layout = LAYOUTS[at];
     let other = |slot: usize| {
         let bytes = &image[layout.slot_at(slot)..][..SLOT_BYTES];
-        let held = if bytes[TYPE_AT] == 0 { None } else { name_of(layout.kind, &bytes[..16]) };
-        held.is_some_and(|held| held != *name && held.eq_ignore_ascii_case(name))
+        let held = if bytes[TYPE_AT] == file_type { name_of(layout.kind, &bytes[..16]) } else { None };
+        held.is_some_and(|held| held != name && held.eq_ignore_ascii_case(name))
     };
     (0..layout.slots()).any(other).then_some(at)
 }

@@ -27,6 +27,7 @@ fn library_and_model_agree() {
     }
     refusals_were_met(&tally);
     spellings_were_met(&tally);
+    types_were_met(&tally);
     salvages_were_met(&tally);
 }
 
@@ -61,8 +62,22 @@ fn spellings_were_met(tally: &Tally) {
     }
 }
 
-/// On all five layouts images were salvaged that the check refuses by each number, and accepted ones; slots were dropped for each reason; and
-/// some were kept with the name or the blocks of a dropped one. A report said nothing else.
+/// On all five layouts finds, removals and puts, by themselves and in scripts, were answered as is due for all that a name and a type can be on
+/// a disk: a file's, its name in other types too or not; in other types alone; nowhere; an illegal type, of each sort, or name. Disks with a
+/// name in two types were accepted, and with one twice in one type refused; of two files of a name one was removed and the other stayed.
+fn types_were_met(tally: &Tally) {
+    for (layout, met) in LAYOUTS.iter().zip(tally.types) {
+        println!("{layout:?}: {met:?}");
+        assert!(met.calls.iter().flatten().all(|&count| count >= 100), "{layout:?}: {met:?}");
+        assert!(met.scripts.iter().flatten().all(|&count| count >= 10), "{layout:?}: {met:?}");
+        let others = [met.accepted, met.twice, met.between, met.stayed];
+        assert!(met.illegal.into_iter().chain(others).all(|count| count >= 30), "{layout:?}: {met:?}");
+    }
+}
+
+/// On all five layouts images were salvaged that the check refuses by each number, and accepted ones; slots were dropped for each reason;
+/// some were kept with name and type or the blocks of a dropped one, and some with the name of a kept one in another type, beside which others
+/// were dropped. A report said nothing else.
 fn salvages_were_met(tally: &Tally) {
     for (layout, met) in LAYOUTS.iter().zip(tally.salvages) {
         println!("{layout:?}: {met:?}");
@@ -75,7 +90,7 @@ fn salvages_were_met(tally: &Tally) {
             let enough = if said == 2 || said == 3 { count == 0 } else { count >= 400 };
             assert!(enough, "{layout:?}: {count} slots were reported as {said}");
         }
-        let counts = [met.names, met.chains, met.short];
+        let counts = [met.names, met.types, met.beside, met.chains, met.short];
         assert!(counts.iter().all(|&count| count >= 50), "{layout:?}: {met:?}");
     }
 }

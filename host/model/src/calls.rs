@@ -52,11 +52,14 @@ pub fn list(image: &[u8], slot: usize) -> Answer<Listed> {
     Ok(Listed { name: file.name.clone(), file_type: file.file_type, length: file.length })
 }
 
-/// Finds a file's slot: 11, 10.
-pub fn find(image: &[u8], name: &[u8]) -> Answer<usize> {
+/// Finds the slot of the file with a name and a type: 11, 10.
+pub fn find(image: &[u8], name: &[u8], file_type: u8) -> Answer<usize> {
     let disk = read(image)?;
     let Some(name) = kept(disk.layout.kind, name) else { return refuse(11, 0) };
-    match disk.slot_of(&name) {
+    if !is_type(disk.layout.kind, file_type) {
+        return refuse(11, 0);
+    }
+    match disk.slot_of(&name, file_type) {
         Some(slot) => Ok(slot),
         None => refuse(10, 0),
     }
@@ -116,7 +119,7 @@ pub fn put(image: &mut [u8], name: &[u8], file_type: u8, content: &[u8]) -> Answ
     if content.is_empty() {
         return refuse(13, 0);
     }
-    if let Some(slot) = disk.slot_of(&name) {
+    if let Some(slot) = disk.slot_of(&name, file_type) {
         return refuse(12, slot);
     }
     let Some(slot) = disk.files.iter().position(Option::is_none) else { return refuse(14, 0) };
@@ -138,9 +141,9 @@ pub fn put(image: &mut [u8], name: &[u8], file_type: u8, content: &[u8]) -> Answ
     Ok(slot)
 }
 
-/// Removes a file: 11, 10.
-pub fn remove(image: &mut [u8], name: &[u8]) -> Answer<()> {
-    let slot = find(image, name)?;
+/// Removes the file with a name and a type: 11, 10.
+pub fn remove(image: &mut [u8], name: &[u8], file_type: u8) -> Answer<()> {
+    let slot = find(image, name, file_type)?;
     let disk = read(image)?;
     for block in disk.files[slot].iter().flat_map(|file| &file.chain) {
         set_map(image, *block, 0);

@@ -42,9 +42,10 @@ impl Disk {
         self.files.get(slot)?.as_ref()
     }
 
-    /// The slot of the file with a name in ASCII, as the disk keeps it.
-    pub fn slot_of(&self, name: &[u8]) -> Option<usize> {
-        (0..self.files.len()).find(|&slot| self.file(slot).is_some_and(|file| file.name == name))
+    /// The slot of the file with a name in ASCII, as the disk keeps it, and a type: a file is known by both.
+    pub fn slot_of(&self, name: &[u8], file_type: u8) -> Option<usize> {
+        let is = |file: &File| file.name == name && file.file_type == file_type;
+        (0..self.files.len()).find(|&slot| self.file(slot).is_some_and(is))
     }
 }
 
@@ -65,7 +66,7 @@ pub fn read(image: &[u8]) -> Answer<Disk> {
     system_values(layout, &map)?;
     let slots: Vec<Slot> = (0..layout.slots()).map(|slot| slot_at(image, layout, slot)).collect();
     let names = names(layout, &slots)?;
-    names_differ(&names)?;
+    files_differ(&slots, &names)?;
     let chains = chains(layout, &map, &slots)?;
     chains_apart(layout, &chains)?;
     no_stray(layout, &map, &chains)?;
@@ -118,7 +119,7 @@ fn system_values(layout: Layout, map: &[usize]) -> Answer<()> {
 /// A slot as its bytes say.
 pub(crate) struct Slot<'a> {
     area: &'a [u8],
-    file_type: u8,
+    pub(crate) file_type: u8,
     length: usize,
     start: usize,
     identity: &'a [u8],
@@ -164,10 +165,11 @@ fn names(layout: Layout, slots: &[Slot]) -> Answer<Vec<Option<Vec<u8>>>> {
     Ok(names)
 }
 
-/// 5: the lowest slot whose name stands in a lower one.
-fn names_differ(names: &[Option<Vec<u8>>]) -> Answer<()> {
+/// 5: the lowest slot whose name and type both stand in one lower slot.
+fn files_differ(slots: &[Slot], names: &[Option<Vec<u8>>]) -> Answer<()> {
     let mut lower = BTreeSet::new();
-    match names.iter().position(|name| name.is_some() && !lower.insert(name)) {
+    let mut known = slots.iter().zip(names).map(|(slot, name)| Some((name.as_ref()?, slot.file_type)));
+    match known.position(|file| file.is_some() && !lower.insert(file)) {
         Some(slot) => refuse(5, slot),
         None => Ok(()),
     }

@@ -1,10 +1,11 @@
-//! Disks with one fault, disks with any damage, and disks with many faults.
+//! Disks with one fault, disks with any damage, disks with many faults, and names in two types, which are no fault.
 
 use crate::Refusal;
 use crate::calls::set_map;
-use crate::disk::Disk;
+use crate::disk::{Disk, File};
 use crate::layout::{BLOCK, Density, IGNORED, Kind, Layout, MAP_AT, SLOT_BYTES, SLOTS, SYSTEM, TYPE_AT};
-use crate::names::name_length;
+use crate::maker::respelt;
+use crate::names::{is_type, name_length};
 use crate::random::Random;
 use crate::{number, store};
 
@@ -29,8 +30,10 @@ pub enum Fault {
     Empty,
     /// 4: identity, on S3000 disks
     SlotIdentity,
-    /// 5
+    /// 5: a name twice in one type
     NameTwice,
+    /// 5: the same, and a slot between the two has the name in another type
+    NameBetween,
     /// 6: start
     Start,
     /// 6: a value before the last block
@@ -48,7 +51,7 @@ pub enum Fault {
 }
 
 /// All faults.
-pub const FAULTS: [Fault; 17] = [
+pub const FAULTS: [Fault; 18] = [
     Fault::Length,
     Fault::Identity,
     Fault::Ignored,
@@ -59,6 +62,7 @@ pub const FAULTS: [Fault; 17] = [
     Fault::Empty,
     Fault::SlotIdentity,
     Fault::NameTwice,
+    Fault::NameBetween,
     Fault::Start,
     Fault::Link,
     Fault::Short,
@@ -82,6 +86,7 @@ pub fn spoil(image: &mut Vec<u8>, disk: &Disk, fault: Fault, random: &mut Random
         Fault::Type | Fault::Name | Fault::Filler | Fault::Empty => spoil_form(image, disk, fault, random)?,
         Fault::SlotIdentity => spoil_own_identity(image, disk, random)?,
         Fault::NameTwice => spoil_names(image, disk, random)?,
+        Fault::NameBetween => spoil_between(image, disk, random)?,
         Fault::Start | Fault::Link | Fault::Short | Fault::Long => spoil_chain(image, disk, fault, random)?,
         Fault::Shared => spoil_shared(image, disk, random)?,
         Fault::Stray => spoil_stray(image, disk, random)?,
@@ -176,11 +181,53 @@ fn spoil_own_identity(image: &mut [u8], disk: &Disk, random: &mut Random) -> Opt
     Some((4, slot))
 }
 
+/// Gives a slot another's name, in a type.
+fn rename(image: &mut [u8], layout: Layout, (from, to): (usize, usize), file_type: u8) {
+    let (from, to) = (layout.slot_at(from), layout.slot_at(to));
+    image.copy_within(from..from + 16, to);
+    image[to + TYPE_AT] = file_type;
+}
+
+/// A type in which no file has a file's name.
+fn other_type(disk: &Disk, file: &File, random: &mut Random) -> Option<u8> {
+    let free = |&byte: &u8| is_type(disk.layout.kind, byte) && disk.slot_of(&file.name, byte).is_none();
+    let types: Vec<u8> = (1..=255).filter(free).collect();
+    if types.is_empty() { None } else { Some(random.pick(&types)) }
+}
+
 fn spoil_names(image: &mut [u8], disk: &Disk, random: &mut Random) -> Option<(u32, usize)> {
     let (one, other) = (used(disk, random)?, used(disk, random)?);
-    let at = disk.layout.slot_at(one);
-    image.copy_within(at..at + 16, disk.layout.slot_at(other));
+    rename(image, disk.layout, (one, other), disk.file(one)?.file_type);
     if one == other { None } else { Some((5, one.max(other))) }
+}
+
+fn spoil_between(image: &mut [u8], disk: &Disk, random: &mut Random) -> Option<(u32, usize)> {
+    let mut slots = [used(disk, random)?, used(disk, random)?, used(disk, random)?];
+    slots.sort_unstable();
+    let [low, middle, high] = slots;
+    if low == middle || middle == high {
+        return None;
+    }
+    let file = disk.file(low)?;
+    rename(image, disk.layout, (low, middle), other_type(disk, file, random)?);
+    rename(image, disk.layout, (low, high), file.file_type);
+    Some((5, high))
+}
+
+/// What is no fault (document 02, request six): gives a used slot another's name in a type in which no file has it. On an S900 disk, whose
+/// names keep their case, now and then another spelling in the same type. A valid image stays one; None if this disk can't have it.
+pub fn share_name(image: &mut [u8], disk: &Disk, random: &mut Random) -> Option<()> {
+    let (one, other) = (used(disk, random)?, used(disk, random)?);
+    let file = disk.file(one).filter(|_| one != other)?;
+    let spelling = respelt(&file.name, random);
+    let is_new = disk.layout.kind == Kind::S900 && disk.slot_of(&spelling, file.file_type).is_none();
+    if is_new && random.one_in(2) {
+        rename(image, disk.layout, (one, other), file.file_type);
+        image[disk.layout.slot_at(other)..][..spelling.len()].copy_from_slice(&spelling);
+    } else {
+        rename(image, disk.layout, (one, other), other_type(disk, file, random)?);
+    }
+    Some(())
 }
 
 fn spoil_chain(image: &mut [u8], disk: &Disk, fault: Fault, random: &mut Random) -> Option<(u32, usize)> {
@@ -292,10 +339,11 @@ pub fn wreck(image: &mut Vec<u8>, disk: &Disk, random: &mut Random) {
     let first = random.pick(&[Fault::System, Fault::System, Fault::NameTwice, Fault::Start, Fault::Shared]);
     let faults = &FAULTS[FAULTS.iter().position(|&fault| fault == first).unwrap_or(0)..];
     for _ in 0..random.within(2, 2 + 2 * files) {
-        match random.below(6) {
-            0 if faults.contains(&Fault::NameTwice) => copy_part(image, disk, 0, 22, random),
-            1 if faults.contains(&Fault::NameTwice) => copy_part(image, disk, 0, SLOT_BYTES, random),
-            2 => copy_part(image, disk, 17, 5, random), // a chain
+        match random.below(7) {
+            0 => copy_part(image, disk, 17, 5, random), // a chain
+            1 if faults.contains(&Fault::NameTwice) => copy_part(image, disk, 0, 22, random),
+            2 if faults.contains(&Fault::NameTwice) => copy_part(image, disk, 0, SLOT_BYTES, random),
+            3 if faults.contains(&Fault::NameTwice) => copy_part(image, disk, 0, 16, random), // a name alone
             _ => {
                 spoil(image, disk, random.pick(faults), random);
             }

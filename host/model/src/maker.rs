@@ -1,4 +1,4 @@
-//! Valid disks for tests: scattered, near full, with a full directory.
+//! Valid disks for tests: scattered, near full, with a full directory; with names that stand in several types.
 
 use crate::calls::{link, set_map, write_slot};
 use crate::disk::File;
@@ -102,27 +102,32 @@ pub fn disk(layout: Layout, plan: Plan, random: &mut Random) -> Vec<u8> {
     if !random.one_in(4) {
         random.shuffle(&mut blocks);
     }
-    let mut names: Vec<Vec<u8>> = Vec::new();
+    let (mut files, fresh) = (Vec::new(), random.pick(&[1, 2, 2, 3, 12]));
     let used = layout.data_blocks().saturating_sub(plan.free).max(plan.files);
     for (at, count) in parts(used, plan.files, random).into_iter().enumerate() {
         let rest = blocks.split_off(count);
-        let mut name = legal_name(layout.kind, random);
-        while names.contains(&name) {
-            name = legal_name(layout.kind, random);
-        }
+        let (name, file_type) = unlike(layout.kind, &files, fresh, random);
         let last = random.pick(&[1, 2, 1023, 1024, 0]);
         let last = if last == 0 { random.within(1, BLOCK) } else { last };
-        let file = File {
-            name,
-            file_type: legal_type(layout.kind, random),
-            length: BLOCK * (count - 1) + last,
-            chain: blocks,
-        };
+        let file = File { name, file_type, length: BLOCK * (count - 1) + last, chain: blocks };
         add(&mut image, layout, slots[at], &file);
-        names.push(file.name);
+        files.push((file.name, file_type));
         blocks = rest;
     }
     image
+}
+
+/// A name and a type that no file has so far. One name in so many is a new one; the others stand in other types already, so that
+/// there are pairs of them, triples and more. If every name is to be new, none stands twice.
+fn unlike(kind: Kind, files: &[(Vec<u8>, u8)], fresh: usize, random: &mut Random) -> (Vec<u8>, u8) {
+    loop {
+        let other = files.get(random.below(files.len())).filter(|_| !random.one_in(fresh));
+        let name = other.map_or_else(|| legal_name(kind, random), |(name, _)| name.clone());
+        let file_type = legal_type(kind, random);
+        if !files.iter().any(|(other, own)| *other == name && (fresh == 1 || *own == file_type)) {
+            return (name, file_type);
+        }
+    }
 }
 
 /// Writes a file's slot and chain; its content is what its blocks hold.

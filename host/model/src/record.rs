@@ -17,7 +17,7 @@ pub struct Entry {
     pub content: Vec<u8>,
 }
 
-/// The files by slot.
+/// The files by slot. One is known by its name and its type.
 #[derive(Clone, Debug, PartialEq, Eq)]
 pub struct Record {
     layout: Layout,
@@ -41,8 +41,16 @@ impl Record {
         }
     }
 
-    fn slot_of(&self, name: &[u8]) -> Option<usize> {
-        self.entries.iter().position(|entry| entry.as_ref().is_some_and(|entry| entry.name == name))
+    /// The slot whose entry has a name, as the disk keeps it, and a type.
+    fn slot_of(&self, name: &[u8], file_type: u8) -> Option<usize> {
+        let is = |entry: &Entry| (&entry.name[..], entry.file_type) == (name, file_type);
+        self.entries.iter().position(|entry| entry.as_ref().is_some_and(is))
+    }
+
+    /// A name as the disk keeps it, or 11 if it or the type isn't legal.
+    fn legal(&self, name: &[u8], file_type: u8) -> Answer<Vec<u8>> {
+        let kind = self.layout.kind;
+        kept(kind, name).filter(|_| is_type(kind, file_type)).map_or(refuse(11, 0), Ok)
     }
 
     /// The data blocks less those that the contents need.
@@ -62,10 +70,10 @@ impl Record {
         Ok(Listed { name: entry.name.clone(), file_type: entry.file_type, length: entry.content.len() })
     }
 
-    /// Finds a name's slot.
-    pub fn find(&self, name: &[u8]) -> Answer<usize> {
-        let Some(name) = kept(self.layout.kind, name) else { return refuse(11, 0) };
-        self.slot_of(&name).map_or(refuse(10, 0), Ok)
+    /// Finds the slot of a name and a type.
+    pub fn find(&self, name: &[u8], file_type: u8) -> Answer<usize> {
+        let name = self.legal(name, file_type)?;
+        self.slot_of(&name, file_type).map_or(refuse(10, 0), Ok)
     }
 
     /// Copies a content's bytes from an offset on.
@@ -79,12 +87,11 @@ impl Record {
 
     /// Puts a file into the lowest empty slot.
     pub fn put(&mut self, name: &[u8], file_type: u8, content: &[u8]) -> Answer<usize> {
-        let kind = self.layout.kind;
-        let Some(name) = kept(kind, name).filter(|_| is_type(kind, file_type)) else { return refuse(11, 0) };
+        let name = self.legal(name, file_type)?;
         if content.is_empty() {
             return refuse(13, 0);
         }
-        if let Some(slot) = self.slot_of(&name) {
+        if let Some(slot) = self.slot_of(&name, file_type) {
             return refuse(12, slot);
         }
         let Some(slot) = self.entries.iter().position(Option::is_none) else { return refuse(14, 0) };
@@ -95,9 +102,9 @@ impl Record {
         Ok(slot)
     }
 
-    /// Removes the file with a name.
-    pub fn remove(&mut self, name: &[u8]) -> Answer<()> {
-        let slot = self.find(name)?;
+    /// Removes the file with a name and a type.
+    pub fn remove(&mut self, name: &[u8], file_type: u8) -> Answer<()> {
+        let slot = self.find(name, file_type)?;
         self.entries[slot] = None;
         Ok(())
     }

@@ -9,15 +9,16 @@ use crate::{Answer, refuse};
 enum Verdict {
     /// It was empty, and its bytes stay.
     Empty,
-    /// A file, by its name in ASCII and its blocks.
-    Kept(Vec<u8>, Vec<usize>),
+    /// A file, by its name in ASCII with its type, and its blocks.
+    Kept((Vec<u8>, u8), Vec<usize>),
     /// For the reason of this number, 4 to 8.
     Dropped(u32),
 }
 
 /// The files that were kept so far: a slot is held against them, and never against one that was dropped.
 struct Kept {
-    names: Vec<Vec<u8>>,
+    /// Names in ASCII, each with its type.
+    names: Vec<(Vec<u8>, u8)>,
     /// For each block, whether it is on one of their chains.
     on_chain: Vec<bool>,
 }
@@ -57,6 +58,7 @@ fn judge(layout: Layout, given: &[usize], slot: &Slot, kept: &Kept) -> Verdict {
         return Verdict::Empty;
     }
     let Some(name) = slot.well_formed(layout) else { return Verdict::Dropped(4) };
+    let name = (name, slot.file_type);
     if kept.names.contains(&name) {
         return Verdict::Dropped(5);
     }

@@ -67,8 +67,8 @@ fn call(image: &mut [u8], entry: &[u8], pool: &[u8], output: &mut [u8]) -> Optio
             end: paged.end,
             ..Reply::default()
         }),
-        2 => Reply::of(find(image, from_pool(4)?), slot),
-        3 => Reply::of(remove(image, from_pool(4)?), |()| Reply::default()),
+        2 => Reply::of(find(image, from_pool(4)?, entry[1]), slot),
+        3 => Reply::of(remove(image, from_pool(4)?, entry[1]), |()| Reply::default()),
         4 => Reply::of(put(image, from_pool(4)?, entry[1], from_pool(12)?), slot),
         _ => return None,
     })

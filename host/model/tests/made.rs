@@ -2,14 +2,15 @@
 //! bytes against the plain record.
 
 use model::calls;
-use model::disk::{content, read};
-use model::faults::{FAULTS, Fault, spoil};
+use model::disk::{Disk, content, read};
+use model::faults::{FAULTS, Fault, share_name, spoil};
 use model::files;
 use model::layout::{Kind, LAYOUTS, Layout};
 use model::maker::{self, Plan};
 use model::random::Random;
 use model::record::Record;
 use model::{Refusal, program, samples};
+use std::collections::{BTreeMap, BTreeSet};
 
 fn plans(random: &mut Random) -> Vec<(usize, Plan)> {
     let layouts = LAYOUTS.into_iter().enumerate();
@@ -50,6 +51,53 @@ fn s3000_disks_are_of_every_sort() {
     assert!(odd > 1000, "{odd}");
 }
 
+/// On all five layouts there are disks whose names all differ, and others with names that stand in two types, three and more.
+#[test]
+fn names_stand_in_several_types() {
+    let mut random = Random::new(11);
+    for layout in LAYOUTS {
+        let (mut apart, mut met) = (0, [0; 5]);
+        for _ in 0..60 {
+            let image = maker::disk(layout, Plan::any(layout, &mut random), &mut random);
+            let disk = read(&image).expect("accepted");
+            let mut types: BTreeMap<&[u8], usize> = BTreeMap::new();
+            disk.files.iter().flatten().for_each(|file| *types.entry(&file.name).or_default() += 1);
+            apart += usize::from(types.values().all(|&types| types == 1));
+            types.into_values().for_each(|types| met[types.min(4)] += 1);
+        }
+        assert!(apart >= 5 && met[1..].iter().all(|&names| names >= 30), "{layout:?}: {apart}, {met:?}");
+    }
+}
+
+/// Whether two files of one type have names that differ in the case of letters alone.
+fn is_spelt_twice(disk: &Disk) -> bool {
+    let mut capitals = BTreeSet::new();
+    disk.files.iter().flatten().any(|file| !capitals.insert((file.name.to_ascii_uppercase(), file.file_type)))
+}
+
+/// A name that a slot takes from another in a type of its own is no fault, again and again on one disk; on S900 disks another spelling
+/// in the same type is none either.
+#[test]
+fn shared_names_are_accepted() {
+    let mut random = Random::new(12);
+    for layout in LAYOUTS {
+        let (mut shared, mut spelt) = (0, 0);
+        for _ in 0..30 {
+            let mut image = maker::disk(layout, Plan::any(layout, &mut random), &mut random);
+            let mut disk = read(&image).expect("accepted");
+            for _ in 0..8 {
+                let before = calls::check(&image);
+                shared += usize::from(share_name(&mut image, &disk, &mut random).is_some());
+                assert_eq!(calls::check(&image), before);
+                disk = read(&image).expect("accepted");
+            }
+            spelt += usize::from(is_spelt_twice(&disk));
+        }
+        let enough = if layout.kind == Kind::S900 { spelt > 10 } else { spelt == 0 };
+        assert!(shared > 100 && enough, "{layout:?}: {shared}, {spelt}");
+    }
+}
+
 #[test]
 fn faults_are_refused() {
     let mut random = Random::new(2);
@@ -81,8 +129,14 @@ fn faults_are_refused() {
 /// One call on bytes and record alike; the page's output too.
 fn step(image: &mut [u8], record: &mut Record, random: &mut Random, layout: Layout) {
     let kind = layout.kind;
-    let known = record.list(random.below(layout.slots())).map(|listed| listed.name);
-    let mut name = known.unwrap_or_else(|_| maker::legal_name(kind, random));
+    let other = maker::legal_type(kind, random);
+    let (mut name, mut file_type) = match record.list(random.below(layout.slots())) {
+        Ok(listed) => (listed.name, if random.one_in(4) { other } else { listed.file_type }),
+        Err(_) => (maker::legal_name(kind, random), other),
+    };
+    if random.one_in(20) {
+        file_type = random.byte();
+    }
     if random.one_in(3) {
         name = maker::respelt(&name, random);
     }
@@ -91,7 +145,7 @@ fn step(image: &mut [u8], record: &mut Record, random: &mut Random, layout: Layo
     }
     let (slot, offset) = (random.below(layout.slots() + 2), random.below(5000));
     match random.below(5) {
-        0 => assert_eq!(calls::find(image, &name), record.find(&name)),
+        0 => assert_eq!(calls::find(image, &name, file_type), record.find(&name, file_type)),
         1 => assert_eq!(calls::list(image, slot), record.list(slot)),
         2 => {
             let (mut one, mut other) = ([9; 3000], [9; 3000]);
@@ -99,13 +153,12 @@ fn step(image: &mut [u8], record: &mut Record, random: &mut Random, layout: Layo
             assert_eq!(one, other);
         }
         3 => {
-            let (file_type, content) = (maker::legal_type(kind, random), random.bytes(offset));
-            let new = maker::legal_name(kind, random);
+            let (new, content) = (maker::legal_name(kind, random), random.bytes(offset));
             let name = if random.one_in(3) { name } else { maker::respelt(&new, random) };
             let put = calls::put(image, &name, file_type, &content);
             assert_eq!(put, record.put(&name, file_type, &content));
         }
-        _ => assert_eq!(calls::remove(image, &name), record.remove(&name)),
+        _ => assert_eq!(calls::remove(image, &name, file_type), record.remove(&name, file_type)),
     }
     assert_eq!(calls::check(image), record.check());
 }

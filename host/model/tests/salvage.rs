@@ -127,19 +127,40 @@ fn the_first_directory_is_kept() {
     loses(noise.concat(), &[(0, 1), (2, 1), (5, 4)], &[30, 31, 32]);
 }
 
-/// The lower slot keeps the name, whatever the types.
+/// The lower slot keeps the name in its type.
 #[test]
 fn names_of_kept_slots_are_dropped() {
     for layout in LAYOUTS {
-        let twice = damaged(layout, |image| {
-            name_of(image, 0, 2);
-            let next = image[at(image, 0) + 16] + 1;
-            byte(image, 2, 16, next);
-        });
-        loses(twice, &[(0, 1), (2, 5), (5, 1)], &[20]);
+        loses(damaged(layout, |image| name_of(image, 0, 2)), &[(0, 1), (2, 5), (5, 1)], &[20]);
         loses(damaged(layout, |image| name_of(image, 5, 2)), &[(0, 1), (2, 1), (5, 5)], &[30, 31, 32]);
         let thrice = damaged(layout, |image| [2, 5].into_iter().for_each(|to| name_of(image, 0, to)));
         loses(thrice, &[(0, 1), (2, 5), (5, 5)], &[20, 30, 31, 32]);
+    }
+}
+
+/// One name in three types is kept in all of them; so it is beside a slot that has it in one of the types again, wherever that stands.
+#[test]
+fn names_in_other_types_are_kept() {
+    for layout in LAYOUTS {
+        let three_types = |types: [u8; 3]| {
+            damaged(layout, |image| {
+                for (slot, more) in [0, 2, 5].into_iter().zip(types) {
+                    name_of(image, 0, slot);
+                    let own = image[at(image, slot) + 16];
+                    byte(image, slot, 16, own - more);
+                }
+            })
+        };
+        loses(three_types([0, 1, 2]), &[(0, 1), (2, 1), (5, 1)], &[]);
+        loses(three_types([1, 0, 1]), &[(0, 1), (2, 1), (5, 5)], &[30, 31, 32]);
+        loses(three_types([1, 1, 0]), &[(0, 1), (2, 5), (5, 1)], &[20]);
+        loses(three_types([0, 1, 1]), &[(0, 1), (2, 1), (5, 5)], &[30, 31, 32]);
+        // the type's lower slot is dropped, and counts no more
+        for (offset, value, number) in [(13, 1, 4), (21, 255, 6), (17, 1, 7)] {
+            let mut image = three_types([1, 0, 1]);
+            byte(&mut image, 0, offset, value);
+            loses(image, &[(0, number), (2, 1), (5, 1)], &[24, 25]);
+        }
     }
 }
 

@@ -85,16 +85,18 @@ fn spellings_are_one_name_on_s1000_disks_alone() {
     assert_eq!(put(&mut image, b"Bass c2     ", b's', b"x"), Ok(0));
     assert_eq!(image[..12], [12, 11, 29, 29, 10, 13, 2, 10, 10, 10, 10, 10]);
     assert_eq!(list(&image, 0).map(|listed| listed.name), Ok(b"BASS C2     ".to_vec()));
-    assert_eq!(find(&image, b"bAsS C2     "), Ok(0));
-    assert_eq!(put(&mut image, b"bASS C2     ", b'p', b"x"), Err(Refusal { number: 12, place: 0 }));
-    assert_eq!(remove(&mut image, b"BASs c2     "), Ok(()));
-    assert_eq!(counts(&image), (0, 1595));
+    assert_eq!(find(&image, b"bAsS C2     ", b's'), Ok(0));
+    assert_eq!(put(&mut image, b"bASS C2     ", b's', b"x"), Err(Refusal { number: 12, place: 0 }));
+    assert_eq!(put(&mut image, b"bASS c2     ", b'p', b"x"), Ok(1));
+    assert_eq!(remove(&mut image, b"BASs c2     ", b's'), Ok(()));
+    assert_eq!(find(&image, b"bass C2     ", b'p'), Ok(1));
+    assert_eq!(counts(&image), (1, 1594));
     let mut image = empty(S900_LOW);
     assert_eq!(put(&mut image, b"Bass      ", b'S', b"x"), Ok(0));
-    assert_eq!(find(&image, b"BASS      "), Err(Refusal { number: 10, place: 0 }));
+    assert_eq!(find(&image, b"BASS      ", b'S'), Err(Refusal { number: 10, place: 0 }));
     assert_eq!(put(&mut image, b"BASS      ", b'S', b"x"), Ok(1));
-    assert_eq!(remove(&mut image, b"Bass      "), Ok(()));
-    assert_eq!(find(&image, b"BASS      "), Ok(1));
+    assert_eq!(remove(&mut image, b"Bass      ", b'S'), Ok(()));
+    assert_eq!(find(&image, b"BASS      ", b'S'), Ok(1));
 }
 
 /// Request five: what tells an S3000 disk, asked before the identities, and the disks that are none.
@@ -179,6 +181,8 @@ fn s3000_slots_are_judged() {
     map(&mut image, 18, 49152);
     image.copy_within(from..from + 16, 5120 + 24 * 511);
     refused(&image, 5, 511);
+    image[5120 + 24 * 511 + 16] = 208;
+    assert_eq!(counts(&image), (2, 1581));
 }
 
 /// Request five: the last slot, and those past it.
@@ -190,7 +194,7 @@ fn s3000_disks_have_512_slots() {
     image[1599 * 1024..][..3].copy_from_slice(b"END");
     let listed = list(&image, 511).expect("a file");
     assert_eq!((&listed.name[..], listed.file_type, listed.length), (&b"RS          "[..], 211, 3));
-    assert_eq!(find(&image, b"rs          "), Ok(511));
+    assert_eq!(find(&image, b"rs          ", 211), Ok(511));
     let mut end = [0; 4];
     assert_eq!(page(&image, 511, 0, &mut end).map(|page| (page.count, page.end)), Ok((3, true)));
     assert_eq!(end, *b"END\0");
@@ -230,8 +234,10 @@ fn s3000_files_are_put_and_removed() {
     assert_eq!(image[21 * 1024 + 1..22 * 1024], [0; 1023]);
     let listed = list(&image, 3).expect("a file");
     assert_eq!((&listed.name[..], listed.file_type, listed.length), (&b"BASS C2     "[..], 211, 1025));
-    for name in [b"2           ", b"BASS c2     ", b"0           ", b"1           "] {
-        assert_eq!(remove(&mut image, name), Ok(()));
+    for (name, file_type) in
+        [(b"2           ", 193), (b"BASS c2     ", 211), (b"0           ", 193), (b"1           ", 193)]
+    {
+        assert_eq!(remove(&mut image, name, file_type), Ok(()));
     }
     for slot in 0..4 {
         assert_eq!(image[5120 + 24 * slot..][..24], [&[0; 23][..], &[12]].concat());
