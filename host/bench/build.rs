@@ -3,11 +3,12 @@
 use std::path::Path;
 use std::process::Command;
 
-// Functions and loops are aligned so that the peer's times don't hang on where they happen to be put.
-const FLAGS: [&str; 9] = [
+// Functions, loops and jumps are aligned so that the peer's times don't hang on where they happen to be put.
+const FLAGS: [&str; 10] = [
     "-O3",
     "-falign-functions=64",
-    "-falign-loops=32",
+    "-falign-loops=64",
+    "-falign-jumps=32",
     "-std=c11",
     "-D_DEFAULT_SOURCE",
     "-Wall",

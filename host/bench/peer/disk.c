@@ -1,10 +1,13 @@
-/* The disk rules of document 01, and of document 02's request five, by hand in plain C: what the library's check, put, remove and salvage are timed
- * against. Each function has the signature of the library's. */
+/* The disk rules of document 01, and of document 02's requests five and six, by hand in plain C: what the library's check, find, put, remove and
+ * salvage are timed against. Each function has the signature of the library's. */
 #include "skilletjay.h"
 
 #include <string.h>
 
 enum { BLOCK = 1024, FEW_SLOTS = 64, MOST_SLOTS = 512, ENTRY = 24, MAP_AT = 1536, SYSTEM = 16384, MOST_BLOCKS = 1600, LONGEST = 16777215 };
+
+/* The bytes at a slot's front by which its file is known: those of its name, and the type. */
+enum { KNOWN = 17 };
 
 typedef struct {
     unsigned kind, density;
@@ -34,6 +37,9 @@ static void set_value(uint8_t *image, size_t block, size_t value) { store2(image
 static size_t slot_at(const layout *disk, size_t slot) { return disk->directory + ENTRY * slot; }
 
 static bool is_used(const uint8_t *entry) { return entry[16] != 0; }
+
+/* Whether a slot has the name and the type of one that is used. The type is asked for first: an empty slot has another. */
+static bool is_same(const uint8_t *entry, const uint8_t *used) { return entry[16] == used[16] && memcmp(entry, used, 16) == 0; }
 
 static bool is_link(const layout *disk, size_t value) { return disk->first <= value && value < disk->blocks; }
 
@@ -102,35 +108,41 @@ static fault pair_fault(const uint8_t *image, const layout *disk) {
         if (!is_used(entry))
             continue;
         for (const uint8_t *lower = first; lower < entry; lower += ENTRY)
-            if (is_used(lower) && memcmp(lower, entry, 16) == 0)
+            if (is_same(lower, entry))
                 return (fault){5, slot};
     }
     return (fault){0, 0};
 }
 
-enum { CELLS = 1024 };
-
-/* The top ten bits of products, which all bytes of a name take part in. */
-static size_t hash(const uint8_t *name) {
-    uint64_t half[2];
-    memcpy(half, name, 16);
-    return ((half[0] * 0x9E3779B97F4A7C15u ^ half[1]) * 0xD6E8FEB86659FD93u) >> 54;
+/* The top bits of products, which all bytes of a name and the type take part in. */
+static inline size_t hash(const uint8_t *entry, unsigned bits) {
+    uint64_t half[2], type = entry[16];
+    memcpy(half, entry, 16);
+    return ((half[0] * 0x9E3779B97F4A7C15u ^ half[1] ^ type << 40) * 0xD6E8FEB86659FD93u) >> (64 - bits);
 }
 
-/* By a table of hashes with a cell for each slot at least twice over: where a cell is taken, the next one is asked. */
-static fault hash_fault(const uint8_t *image, const layout *disk) {
-    uint16_t table[CELLS] = {0}; /* a slot plus 1, or 0 */
+/* By a table of hashes with a cell for each slot twice over: where a cell is taken, the next one is asked. */
+static inline fault hash_fault_in(const uint8_t *image, const layout *disk, uint16_t *table, unsigned bits) {
+    size_t cells = (size_t)1 << bits;
+    memset(table, 0, cells * sizeof *table); /* a slot plus 1, or 0 */
     for (size_t slot = 0; slot < disk->slots; slot++) {
         const uint8_t *entry = image + slot_at(disk, slot);
         if (!is_used(entry))
             continue;
-        size_t cell = hash(entry);
-        for (; table[cell] != 0; cell = (cell + 1) % CELLS)
-            if (memcmp(image + slot_at(disk, table[cell] - 1u), entry, 16) == 0)
+        size_t cell = hash(entry, bits);
+        for (; table[cell] != 0; cell = (cell + 1) % cells)
+            if (is_same(image + slot_at(disk, table[cell] - 1u), entry))
                 return (fault){5, slot};
         table[cell] = (uint16_t)(slot + 1);
     }
     return (fault){0, 0};
+}
+
+enum { CELLS = 2 * MOST_SLOTS, CELL_BITS = 10, FEW_BITS = 7 };
+
+static fault hash_fault(const uint8_t *image, const layout *disk) {
+    uint16_t table[CELLS];
+    return disk->slots > FEW_SLOTS ? hash_fault_in(image, disk, table, CELL_BITS) : hash_fault_in(image, disk, table, FEW_BITS);
 }
 
 static fault name_fault(const uint8_t *image, const layout *disk) {
@@ -237,28 +249,37 @@ sj_checked peer_check_pairs(const uint8_t *image, size_t image_len) {
     return told(found, image, &disk, free);
 }
 
+/* The check that finds names by their hashes, however few. */
+sj_checked peer_check_hashes(const uint8_t *image, size_t image_len) {
+    layout disk;
+    size_t free = 0;
+    fault found = check_by(hash_fault, image, image_len, &disk, &free);
+    return told(found, image, &disk, free);
+}
+
 static const char AKAII[] = "0123456789 ABCDEFGHIJKLMNOPQRSTUVWXYZ#+-.";
 
-/* A name's 16 bytes on the disk, if it is legal. But for S900 disks a to z are taken as A to Z. */
-static bool name_area(const layout *disk, const uint8_t *name, size_t length, uint8_t *area) {
-    if (length != disk->letters)
+/* The bytes by which a file is known on the disk, if name and type are legal. But for S900 disks a to z in a name are taken as A to Z. */
+static bool known_as(const layout *disk, const uint8_t *name, size_t length, uint8_t type, uint8_t *known) {
+    if (length != disk->letters || type < disk->least || type > disk->most)
         return false;
-    memset(area, disk->pad, 15);
-    area[15] = disk->last;
+    memset(known, disk->pad, 15);
+    known[15] = disk->last;
+    known[16] = type;
     for (size_t i = 0; i < length; i++) {
         uint8_t capital = name[i] >= 'a' && name[i] <= 'z' ? name[i] - 32 : name[i];
         const char *code = is_akaii(disk) ? memchr(AKAII, capital, sizeof AKAII - 1) : NULL;
         if (is_akaii(disk) ? code == NULL : name[i] < 32 || name[i] > 126)
             return false;
-        area[i] = is_akaii(disk) ? (uint8_t)(code - AKAII) : name[i];
+        known[i] = is_akaii(disk) ? (uint8_t)(code - AKAII) : name[i];
     }
     return true;
 }
 
-/* The slot with a name's area, or the number of slots. */
-static size_t slot_of(const uint8_t *image, const layout *disk, const uint8_t *area) {
+/* The slot of the file that is known by these bytes, or the number of slots. */
+static size_t slot_of(const uint8_t *image, const layout *disk, const uint8_t *known) {
     size_t slot = 0;
-    while (slot < disk->slots && !(is_used(image + slot_at(disk, slot)) && memcmp(image + slot_at(disk, slot), area, 16) == 0))
+    while (slot < disk->slots && !is_same(image + slot_at(disk, slot), known))
         slot++;
     return slot;
 }
@@ -290,19 +311,32 @@ static size_t store_content(uint8_t *image, const layout *disk, const uint8_t *c
 
 static sj_found refused(uint32_t number, size_t place) { return (sj_found){number, place, 0}; }
 
+sj_found peer_find(const uint8_t *image, size_t image_len, const uint8_t *name, size_t name_len, uint8_t type) {
+    layout disk;
+    size_t free;
+    uint8_t known[KNOWN];
+    fault found = check(image, image_len, &disk, &free);
+    if (found.number != 0)
+        return refused(found.number, found.place);
+    if (!known_as(&disk, name, name_len, type, known))
+        return refused(11, 0);
+    size_t slot = slot_of(image, &disk, known);
+    return slot == disk.slots ? refused(10, 0) : (sj_found){0, 0, slot};
+}
+
 sj_found peer_put(uint8_t *image, size_t image_len, const uint8_t *name, size_t name_len, uint8_t type, const uint8_t *content,
                   size_t content_len) {
     layout disk;
     size_t free;
-    uint8_t area[16];
+    uint8_t known[KNOWN];
     fault found = check(image, image_len, &disk, &free);
     if (found.number != 0)
         return refused(found.number, found.place);
-    if (!name_area(&disk, name, name_len, area) || type < disk.least || type > disk.most)
+    if (!known_as(&disk, name, name_len, type, known))
         return refused(11, 0);
     if (content_len == 0)
         return refused(13, 0);
-    size_t taken = slot_of(image, &disk, area), slot = empty_slot(image, &disk);
+    size_t taken = slot_of(image, &disk, known), slot = empty_slot(image, &disk);
     if (taken < disk.slots)
         return refused(12, taken);
     if (slot == disk.slots)
@@ -312,8 +346,7 @@ sj_found peer_put(uint8_t *image, size_t image_len, const uint8_t *name, size_t 
     if (content_len > LONGEST)
         return refused(16, 0);
     uint8_t *entry = image + slot_at(&disk, slot);
-    memcpy(entry, area, 16);
-    entry[16] = type;
+    memcpy(entry, known, KNOWN);
     store2(entry + 17, content_len);
     entry[19] = (uint8_t)(content_len >> 16);
     store2(entry + 20, store_content(image, &disk, content, content_len));
@@ -321,16 +354,16 @@ sj_found peer_put(uint8_t *image, size_t image_len, const uint8_t *name, size_t 
     return (sj_found){0, 0, slot};
 }
 
-sj_done peer_remove(uint8_t *image, size_t image_len, const uint8_t *name, size_t name_len) {
+sj_done peer_remove(uint8_t *image, size_t image_len, const uint8_t *name, size_t name_len, uint8_t type) {
     layout disk;
     size_t free;
-    uint8_t area[16];
+    uint8_t known[KNOWN];
     fault found = check(image, image_len, &disk, &free);
     if (found.number != 0)
         return (sj_done){found.number, found.place};
-    if (!name_area(&disk, name, name_len, area))
+    if (!known_as(&disk, name, name_len, type, known))
         return (sj_done){11, 0};
-    size_t slot = slot_of(image, &disk, area);
+    size_t slot = slot_of(image, &disk, known);
     if (slot == disk.slots)
         return (sj_done){10, 0};
     uint8_t *entry = image + slot_at(&disk, slot);
@@ -342,12 +375,26 @@ sj_done peer_remove(uint8_t *image, size_t image_len, const uint8_t *name, size_
     return (sj_done){0, 0};
 }
 
+/* Name and type of a well-formed slot in 16 bytes: the type in place of a filler, which says nothing. */
+typedef struct {
+    uint64_t half[2];
+} key;
+
+static key key_of(const uint8_t *entry) {
+    uint8_t bytes[16];
+    key own;
+    memcpy(bytes, entry, 16);
+    bytes[13] = entry[16];
+    memcpy(own.half, bytes, 16);
+    return own;
+}
+
 /* The files that a salvage has kept so far. */
 typedef struct {
     size_t files;
-    uint64_t names[MOST_SLOTS][2]; /* a name area's 16 bytes */
-    uint16_t cells[CELLS];         /* a file plus 1, or 0: used where a disk has many slots */
-    uint16_t keep[MOST_BLOCKS];    /* all ones where a block is on a chain of theirs, else 0 */
+    key keys[MOST_SLOTS];
+    uint16_t cells[CELLS];      /* a file plus 1, or 0: used where a disk has many slots */
+    uint16_t keep[MOST_BLOCKS]; /* all ones where a block is on a chain of theirs, else 0 */
 } kept;
 
 /* Takes a chain's blocks, or gives the number of its first fault, 6, 7 or 8. One walk, which notes the blocks on its way: a step waits for the
@@ -376,30 +423,30 @@ static uint32_t take_chain(const uint8_t *image, const layout *disk, const uint8
     return 0;
 }
 
-/* Whether a kept file has a name; gives the name's cell if the disk has many slots. */
-static bool is_kept(const kept *so_far, const layout *disk, const uint64_t *name, size_t *cell) {
+/* Whether a file of the same name and type is kept; gives the cell of the two if the disk has many slots. */
+static bool is_kept(const kept *so_far, const layout *disk, const uint8_t *entry, const key *own, size_t *cell) {
     if (disk->slots <= FEW_SLOTS) {
         for (size_t file = 0; file < so_far->files; file++)
-            if (so_far->names[file][0] == name[0] && so_far->names[file][1] == name[1])
+            if (so_far->keys[file].half[0] == own->half[0] && so_far->keys[file].half[1] == own->half[1])
                 return true;
         return false;
     }
-    for (*cell = hash((const uint8_t *)name); so_far->cells[*cell] != 0; *cell = (*cell + 1) % CELLS)
-        if (memcmp(so_far->names[so_far->cells[*cell] - 1], name, 16) == 0)
+    for (*cell = hash(entry, CELL_BITS); so_far->cells[*cell] != 0; *cell = (*cell + 1) % CELLS)
+        if (memcmp(&so_far->keys[so_far->cells[*cell] - 1], own, sizeof *own) == 0)
             return true;
     return false;
 }
 
 /* What a salvage reports of a slot. */
 static uint8_t judge(const uint8_t *image, const layout *disk, const uint8_t *entry, kept *so_far) {
-    uint64_t *name = so_far->names[so_far->files];
+    key *own = &so_far->keys[so_far->files];
     size_t cell = 0;
     if (!is_used(entry))
         return 0;
     if (!is_well_formed(entry, disk))
         return 4;
-    memcpy(name, entry, 16);
-    if (is_kept(so_far, disk, name, &cell))
+    *own = key_of(entry);
+    if (is_kept(so_far, disk, entry, own, &cell))
         return 5;
     uint32_t number = take_chain(image, disk, entry, so_far->keep);
     if (number != 0)

@@ -1,7 +1,7 @@
 //! The peer must do the library's work: both answer alike, on good disks and files and on faulty ones.
 
-use crate::calls::{LIBRARY, PAIRS, PEER};
-use crate::disks::Order;
+use crate::calls::{HASHES, LIBRARY, PAIRS, PEER};
+use crate::disks::{Order, share_names};
 use crate::s3000;
 use model::faults::{self, FAULTS};
 use model::files;
@@ -38,7 +38,7 @@ fn disks(random: &mut Random) -> usize {
     }
     same_check(&image);
     same_salvage(&image, SLOTS);
-    changes(image, layout.kind, 0, random);
+    changes(image, layout.kind, random);
     3 * FAULTS.len() + 1
 }
 
@@ -46,7 +46,10 @@ fn disks(random: &mut Random) -> usize {
 fn s3000_disks(random: &mut Random) -> usize {
     let files = random.pick(&[0, 1, 40, 500, 511, 512]);
     let used = random.within(files, s3000::DATA_BLOCKS);
-    let image = s3000::disk(files, used, random.pick(&[Order::Rising, Order::Scattered]));
+    let mut image = s3000::disk(files, used, random.pick(&[Order::Rising, Order::Scattered]));
+    if random.one_in(2) {
+        share_names(&mut image, s3000::DIRECTORY, files, s3000::PROGRAM);
+    }
     for _ in 0..20 {
         let mut spoilt = image.clone();
         for _ in 0..random.within(0, 3) {
@@ -55,7 +58,7 @@ fn s3000_disks(random: &mut Random) -> usize {
         same_check(&spoilt);
         same_salvage(&spoilt, s3000::SLOTS);
     }
-    changes(image, Kind::S1000, 96, random);
+    changes(image, Kind::S3000, random);
     20
 }
 
@@ -63,6 +66,7 @@ fn s3000_disks(random: &mut Random) -> usize {
 pub fn same_check(image: &[u8]) {
     assert_eq!(LIBRARY.check(image), PEER.check(image), "check");
     assert_eq!(PEER.check(image), PAIRS.check(image), "check of all pairs");
+    assert_eq!(PEER.check(image), HASHES.check(image), "check by hashes");
 }
 
 /// Both salvage an image of so many slots alike, and refuse to where the report is too short; gives the report.
@@ -79,8 +83,8 @@ pub fn same_salvage(image: &[u8], slots: usize) -> Vec<u8> {
     our
 }
 
-/// Puts and removes, legal and not, by the same name in more than one spelling. Types are those of a kind and so much more.
-fn changes(mut image: Vec<u8>, kind: Kind, more: u8, random: &mut Random) {
+/// Puts, finds and removes, legal and not, by the same name in more than one spelling and more than one type.
+fn changes(mut image: Vec<u8>, kind: Kind, random: &mut Random) {
     let mut copy = image.clone();
     for _ in 0..12 {
         let mut name = maker::legal_name(kind, random);
@@ -90,16 +94,20 @@ fn changes(mut image: Vec<u8>, kind: Kind, more: u8, random: &mut Random) {
         if random.one_in(8) {
             name[3] = random.pick(&[200, b'@', b'[', b'`', b'{']);
         }
-        let file_type = if random.one_in(8) { b'!' } else { maker::legal_type(kind, random) + more };
+        let file_type = if random.one_in(8) { b'!' } else { maker::legal_type(kind, random) };
         let size = random.pick(&[0, 1, 1024, 1025, 50_000, 1_000_000]);
         let content = random.bytes(size);
         let put = LIBRARY.put(&mut image, &name, file_type, &content);
         assert_eq!(put, PEER.put(&mut copy, &name, file_type, &content), "put");
-        if random.one_in(3) {
-            let name = maker::respelt(&name, random);
-            let again = LIBRARY.put(&mut image, &name, file_type, b"again");
-            assert_eq!(again, PEER.put(&mut copy, &name, file_type, b"again"), "put again");
-            assert_eq!(LIBRARY.remove(&mut image, &name), PEER.remove(&mut copy, &name), "remove");
+        let name = maker::respelt(&name, random);
+        for other in [file_type, maker::legal_type(kind, random), 0] {
+            assert_eq!(LIBRARY.find(&image, &name, other), PEER.find(&copy, &name, other), "find");
+            if random.one_in(3) {
+                let again = LIBRARY.put(&mut image, &name, other, b"again");
+                assert_eq!(again, PEER.put(&mut copy, &name, other, b"again"), "put again");
+                let removed = LIBRARY.remove(&mut image, &name, other);
+                assert_eq!(removed, PEER.remove(&mut copy, &name, other), "remove");
+            }
         }
         assert!(image == copy, "images part");
     }

@@ -4,8 +4,9 @@ use model::layout::Kind;
 use skilletjay::raw::{self, Checked, Counted, Done, Found};
 
 type Check = unsafe extern "C" fn(*const u8, usize) -> Checked;
+type Find = unsafe extern "C" fn(*const u8, usize, *const u8, usize, u8) -> Found;
 type Put = unsafe extern "C" fn(*mut u8, usize, *const u8, usize, u8, *const u8, usize) -> Found;
-type Remove = unsafe extern "C" fn(*mut u8, usize, *const u8, usize) -> Done;
+type Remove = unsafe extern "C" fn(*mut u8, usize, *const u8, usize, u8) -> Done;
 type Salvage = unsafe extern "C" fn(*mut u8, usize, *mut u8, usize) -> Counted;
 type Unpack = unsafe extern "C" fn(*const u8, usize, *mut i16, usize) -> Counted;
 type Pack = unsafe extern "C" fn(*const u8, usize, *const i16, usize, *mut u8, usize) -> Counted;
@@ -13,6 +14,7 @@ type Pack = unsafe extern "C" fn(*const u8, usize, *const i16, usize, *mut u8, u
 /// One side's functions.
 pub struct Calls {
     check: Check,
+    find: Find,
     put: Put,
     remove: Remove,
     salvage: Salvage,
@@ -23,6 +25,7 @@ pub struct Calls {
 /// The library.
 pub const LIBRARY: Calls = Calls {
     check: raw::sj_check,
+    find: raw::sj_find,
     put: raw::sj_put,
     remove: raw::sj_remove,
     salvage: raw::sj_salvage,
@@ -33,6 +36,7 @@ pub const LIBRARY: Calls = Calls {
 /// Plain C of `peer/`.
 pub const PEER: Calls = Calls {
     check: peer_check,
+    find: peer_find,
     put: peer_put,
     remove: peer_remove,
     salvage: peer_salvage,
@@ -44,8 +48,10 @@ pub const PEER: Calls = Calls {
 unsafe extern "C" {
     fn peer_check(image: *const u8, image_len: usize) -> Checked;
     fn peer_check_pairs(image: *const u8, image_len: usize) -> Checked;
+    fn peer_check_hashes(image: *const u8, image_len: usize) -> Checked;
+    fn peer_find(image: *const u8, image_len: usize, name: *const u8, name_len: usize, file_type: u8) -> Found;
     fn peer_put(image: *mut u8, image_len: usize, name: *const u8, name_len: usize, file_type: u8, content: *const u8, content_len: usize) -> Found;
-    fn peer_remove(image: *mut u8, image_len: usize, name: *const u8, name_len: usize) -> Done;
+    fn peer_remove(image: *mut u8, image_len: usize, name: *const u8, name_len: usize, file_type: u8) -> Done;
     fn peer_salvage(image: *mut u8, image_len: usize, report: *mut u8, report_len: usize) -> Counted;
     fn peer_s900_unpack(file: *const u8, file_len: usize, words: *mut i16, words_len: usize) -> Counted;
     fn peer_s900_pack(header: *const u8, header_len: usize, words: *const i16, words_len: usize, out: *mut u8, out_len: usize) -> Counted;
@@ -56,11 +62,18 @@ unsafe extern "C" {
 /// Plain C whose check compares all pairs of names.
 pub const PAIRS: Calls = Calls { check: peer_check_pairs, ..PEER };
 
+/// Plain C whose check finds names by a table of hashes, also on disks of 64 slots.
+pub const HASHES: Calls = Calls { check: peer_check_hashes, ..PEER };
+
 // SAFETY of all calls below: slices are lent for their lengths, mutable ones lie apart from all others, and neither side writes
 // to what it is lent as const.
 impl Calls {
     pub fn check(&self, image: &[u8]) -> Checked {
         unsafe { (self.check)(image.as_ptr(), image.len()) }
+    }
+
+    pub fn find(&self, image: &[u8], name: &[u8], file_type: u8) -> Found {
+        unsafe { (self.find)(image.as_ptr(), image.len(), name.as_ptr(), name.len(), file_type) }
     }
 
     pub fn put(&self, image: &mut [u8], name: &[u8], file_type: u8, content: &[u8]) -> Found {
@@ -70,8 +83,8 @@ impl Calls {
         }
     }
 
-    pub fn remove(&self, image: &mut [u8], name: &[u8]) -> Done {
-        unsafe { (self.remove)(image.as_mut_ptr(), image.len(), name.as_ptr(), name.len()) }
+    pub fn remove(&self, image: &mut [u8], name: &[u8], file_type: u8) -> Done {
+        unsafe { (self.remove)(image.as_mut_ptr(), image.len(), name.as_ptr(), name.len(), file_type) }
     }
 
     pub fn salvage(&self, image: &mut [u8], report: &mut [u8]) -> Counted {

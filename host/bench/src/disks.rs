@@ -1,7 +1,7 @@
 //! The disks that are timed.
 
 use model::disk::File;
-use model::layout::{BLOCK, Density, Kind, Layout};
+use model::layout::{BLOCK, Density, Kind, Layout, SLOT_BYTES, TYPE_AT};
 use model::maker;
 use model::random::Random;
 
@@ -34,6 +34,16 @@ pub fn disk(kind: Kind, files: usize, used: usize, order: Order) -> Vec<u8> {
         maker::add(&mut image, layout, slot, &file);
     }
     image
+}
+
+/// Gives a disk's upper half of so many files, from slot 0 on, the names of the lower half in another type, so that every name stands
+/// in two. The directory lies at an offset of its own.
+pub fn share_names(image: &mut [u8], directory: usize, files: usize, file_type: u8) {
+    for lower in 0..files / 2 {
+        let at = |slot: usize| directory + SLOT_BYTES * slot;
+        image.copy_within(at(lower)..at(lower) + TYPE_AT, at(lower + files / 2));
+        image[at(lower + files / 2) + TYPE_AT] = file_type;
+    }
 }
 
 /// A file's name on these disks.

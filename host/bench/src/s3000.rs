@@ -11,8 +11,9 @@ pub const DIRECTORY: usize = 5120;
 /// The first data block, and how many there are.
 pub const FIRST: usize = 17;
 pub const DATA_BLOCKS: usize = 1583;
-/// A type byte: a capital plus 128.
+/// Type bytes, of samples and of programs: a capital plus 128.
 pub const TYPE: u8 = b'S' + 128;
+pub const PROGRAM: u8 = b'P' + 128;
 const END_MARK: usize = 49152;
 
 /// A disk with files of equal numbers of blocks, so many in all. All that no rule reads is noise.
@@ -72,11 +73,12 @@ pub fn damage(image: &mut [u8]) {
 /// One fault or none, anywhere.
 pub fn spoil(image: &mut [u8], random: &mut Random) {
     let [slot, other] = [random.below(SLOTS), random.below(SLOTS)];
-    match random.below(6) {
+    match random.below(7) {
         0 => entry(image, slot)[random.below(SLOT_BYTES)] = random.byte(),
         1 => copy(image, slot, other, 0, 16),
-        2 => copy(image, slot, other, 17, 22),
-        3 => image[16] = random.pick(&[255, 0, b's']),
+        2 => copy(image, slot, other, 0, 17),
+        3 => copy(image, slot, other, 17, 22),
+        4 => image[16] = random.pick(&[255, 0, b's']),
         _ => {
             let link = random.within(FIRST, FIRST + DATA_BLOCKS - 1);
             let value = random.pick(&[0, SYSTEM, END_MARK, FIRST - 1, link, FIRST + DATA_BLOCKS]);

@@ -32,9 +32,10 @@ fn both(table: &mut Table, kind: &str, damaged: Vec<u8>, accepted: Vec<u8>, slot
     against(table, &format!("salvage a full accepted disk, {kind}"), accepted, slots);
 }
 
-/// Every fault but those of length and kind, one after another; the blocks of the slots that are dropped are strays then.
+/// Every fault but those of length and kind, one after another, by a seed that gives each a slot of its own; the blocks of the slots that are
+/// dropped are strays then.
 fn damage(accepted: &[u8]) -> Vec<u8> {
-    let (mut image, mut random) = (accepted.to_vec(), Random::new(2));
+    let (mut image, mut random) = (accepted.to_vec(), Random::new(53));
     let disk = model::disk::read(accepted).expect("accepted");
     for &fault in OF_KNOWN_KIND {
         spoil(&mut image, &disk, fault, &mut random);

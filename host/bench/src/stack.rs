@@ -51,11 +51,11 @@ fn disk_calls(mut image: Vec<u8>, held: &[u8], file_type: u8, slots: usize) -> V
     vec![
         ("check", used(|| assert_eq!(LIBRARY.check(&image).refusal, 0))),
         ("list", used(|| assert_eq!(lend::list(&image, 5).refusal, 0))),
-        ("find", used(|| assert_eq!(lend::find(&image, held).refusal, 0))),
+        ("find", used(|| assert_eq!(LIBRARY.find(&image, held, file_type).refusal, 0))),
         ("page", used(|| assert_eq!(lend::page(&image, 5, 0, &mut out).refusal, 0))),
         ("blocks", used(|| assert_eq!(lend::blocks(&image, 5, &mut blocks).refusal, 0))),
         ("put", used(|| assert_eq!(LIBRARY.put(&mut image, &put, file_type, &content).refusal, 0))),
-        ("remove", used(|| assert_eq!(LIBRARY.remove(&mut image, &put).refusal, 0))),
+        ("remove", used(|| assert_eq!(LIBRARY.remove(&mut image, &put, file_type).refusal, 0))),
         ("salvage", used(|| assert_eq!(LIBRARY.salvage(&mut image, &mut report).refusal, 0))),
         ("run", used(|| assert_eq!(lend::run(&mut image, &script, &pool, &mut answers), 1))),
     ]
