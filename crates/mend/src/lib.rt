@@ -1,6 +1,6 @@
-// The salvage run (document 02, request four) on an image of a known layout: the names that stand twice are noted, the slots judged in rising order, then
-// the dropped ones erased, the system values restored and the stray blocks freed. Nothing of the image is written before all is judged, so that chains are
-// judged on the map as given.
+// The salvage run (document 02, request four) on an image of a known layout: slots with a lower one's name and type are noted, the slots judged in rising
+// order, then the dropped ones erased, the system values restored and the stray blocks freed. Nothing of the image is written before all is judged, so that
+// chains are judged on the map as given.
 ghost use mathlib.Core.Path.{_≡_};
 ghost use mathlib.Core.Bool.{true, false, not};
 ghost use Prim.Native.Nat.{_+_, _-_, _≤_, _<_};
@@ -137,7 +137,7 @@ fn chain_said(
     }
 }
 
-// What the run says of a slot, by the report and the marks of the slots below it and by whether its name stands in a used one of them; the blocks of
+// What the run says of a slot, by the report and the marks of the slots below it and by whether a used one of them has its name and type; the blocks of
 // one that is kept are listed.
 fn verdict_of(
     image: &[u8],
@@ -210,7 +210,7 @@ fn used_end(image: &[u8], layout: layout::Layout) -> usize
     0
 }
 
-// Notes in the report which slots' names stand in lower used slots, by the check's table of hashes.
+// Notes in the report which slots' names and types stand in lower used slots, by the check's table of hashes.
 fn note_names(image: &[u8], layout: layout::Layout, report: &mut [u8], end: usize)
     requires { ⌜ LayoutRight layout × (blockOffset (layout .first) ≤ length (now image)) × (layout .slots ≤ length (now report)) × (end ≡ usedEnd (viewOf layout (bytes (now image))) (layout .slots)) ⌝ }
     ensures { λ _. ⌜ Reported (nameNote layout (viewOf layout (bytes (now (image .entry))))) (now (report .entry)) (now (report .exit)) (layout .slots) ⌝ }

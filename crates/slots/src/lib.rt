@@ -139,7 +139,7 @@ pub fn key(head: &[u8], at: usize) -> usize
     blocks::number4(head, at) + 4294967296 * blocks::number4(head, at + 4)
 }
 
-// Whether the two halves of a slot's name have these keys and its type is this one. Of a type that files have that is no empty slot.
+// Whether the two halves of a slot's name have these keys and its type is this one. For a file's type no empty slot passes: theirs is 0.
 pub fn has_keys(
     head: &[u8],
     layout: layout::Layout,

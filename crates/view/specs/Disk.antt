@@ -44,7 +44,7 @@ unfoldable pub formed : Layout → Entry → Bool
 unfolding legalArea legalType
 formed l e = both (legalArea l (e .area)) (both (legalType l (e .type)) (both (leb 1 (e .size)) (eqb (e .identity) (l .identity))))
 
--- An entry has this name area and this type: a file is known by both (document 02, request six). 0 is no file's type, so no empty slot has them.
+-- An entry has this name area and this type: a file is known by both (document 02, request six). 0 is no file's type, so that for one an empty slot never passes.
 unfoldable pub hasName : List ℕ → ℕ → Entry → Bool
 unfolding same
 hasName area type e = both (same area (e .area)) (eqb type (e .type))

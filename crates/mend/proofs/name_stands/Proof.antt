@@ -1,4 +1,4 @@
--- `mend::name_stands` meets its contract: where no used slot below has the name no kept one has it, and else they are gone through.
+-- `mend::name_stands` meets its contract: where no used slot below has name and type no kept one has them, and else they are gone through.
 -- A kept slot is a used one. Assumes nothing.
 use mathlib.Core.Path.{sym, _∙_}
 use borrow.Author.Needs.{needs}

@@ -1,4 +1,4 @@
--- `slots::name_fault` meets its contract: the lowest slot of those left with a lower slot's name is that of all, and the table has the slots below it.
+-- `slots::name_fault` meets its contract: the lowest slot of those left with a lower slot's name and type is that of all, and the table has the slots below it.
 -- One search, by its laws; each turn hands the table on. Assumes nothing.
 use Prim.Native.Nat.{ℕ, _-_}
 use native.Mathlib.Omega.{arith}
