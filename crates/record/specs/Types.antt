@@ -12,7 +12,6 @@ use borrow.Author.Tests.{eqb-true, eq-eqb}
 use Rattle.laws.specs.Lemmas.Truth.{both-true, true-both, clash}
 use Rattle.laws.specs.Lists.{same}
 use Rattle.laws.specs.Lemmas.Lists.{same-refl, same-true}
-use Rattle.laws.specs.Scan.{lowest}
 use Rattle.laws.specs.Lemmas.Scan.{at→, nowhere→}
 use Rattle.laws.specs.declared.Lowest.{Lowest}
 use Rattle.laws.specs.declared.Lowest.the-variants.{At, Nowhere}
@@ -45,18 +44,35 @@ module _ (l : Layout) (files : Files) (name : List ℕ) (type s : ℕ) where
   pub named-exactly : (named l name type (files s) ≡ true) ↔ Holds l files name type s
   named-exactly = (holds-by (files s) refl, named-by)
 
+module _ (l : Layout) (files : Files) (name : List ℕ) (type : ℕ) where
+  -- The slot found holds a file with both; none is found exactly where no slot does.
+  pub slot-at : (s : ℕ) → slotOf l files name type ≡ At s → Holds l files name type s
+  unfolding slotOf
+  slot-at s e = named-exactly l files name type s .0 (at→ (λ t. named l name type (files t)) 0 (l .slots) s e .2)
+
+  pub slot-none : ((s : ℕ) → Holds l files name type s → ⊥) → slotOf l files name type ≡ Nowhere
+  slot-none new = go (slotOf l files name type) refl
+    where
+      go : (w : Lowest) → slotOf l files name type ≡ w → slotOf l files name type ≡ Nowhere
+      go (At s) e = absurd (new s (slot-at s e))
+      go Nowhere e = e
+
+  pub none-held : slotOf l files name type ≡ Nowhere → (s : ℕ) → s < l .slots → Holds l files name type s → ⊥
+  unfolding slotOf
+  none-held e s inside h =
+      clash (named-exactly l files name type s .1 h) (nowhere→ (λ t. named l name type (files t)) 0 (l .slots) e s (omega arith) (omega arith))
+
 module _ (l : Layout) (files : Files) (apart : Apart files) where
   -- The slot of a name and a type is the one that holds a file with both.
   pub slot-held : (name : List ℕ) (type s : ℕ) → s < l .slots → Holds l files name type s → slotOf l files name type ≡ At s
-  unfolding slotOf
-  slot-held name type s inside h = go (lowest (λ t. named l name type (files t)) 0 (l .slots)) refl
+  slot-held name type s inside h = go (slotOf l files name type) refl
     where
       same-file : (t : ℕ) → Holds l files name type t → Holds l files name type s → t ≡ s
       same-file t (f, a, p, x) (g, b, q, y) = apart t s f g a b (sym p ∙ q) (sym x ∙ y)
 
-      go : (w : Lowest) → lowest (λ t. named l name type (files t)) 0 (l .slots) ≡ w → lowest (λ t. named l name type (files t)) 0 (l .slots) ≡ At s
-      go (At t) e = e ∙ ap At (same-file t (named-exactly l files name type t .0 (at→ (λ t. named l name type (files t)) 0 (l .slots) t e .2)) h)
-      go Nowhere e = absurd (clash (named-by l files name type s h) (nowhere→ (λ t. named l name type (files t)) 0 (l .slots) e s (omega arith) (omega arith)))
+      go : (w : Lowest) → slotOf l files name type ≡ w → slotOf l files name type ≡ At s
+      go (At t) e = e ∙ ap At (same-file t (slot-at l files name type t e) h)
+      go Nowhere e = absurd (none-held l files name type e s inside h)
 
   -- Two files of one name and two types are both found, each by its own type, in a slot of its own.
   pub both-found : (name : List ℕ) (s t : ℕ) (f g : File) → s < l .slots → t < l .slots → files s ≡ some f → files t ≡ some g → capitals l name ≡ f .name → capitals l name ≡ g .name

@@ -3,7 +3,7 @@
 use mathlib.Core.Path.{_≡_, refl, sym, ap, _∙_, fun-ext}
 use mathlib.Core.Bool.{Bool, true, false, true≢false}
 use mathlib.Core.List.{List, [], _∷_, _++_}
-use mathlib.Core.Option.{Option, none, some}
+use mathlib.Core.Option.{none, some}
 use mathlib.Core.Logic.{_↔_}
 use Prim.Native.Nat.{ℕ, _+_, _-_, _≤_, _<_, min}
 use native.Mathlib.Decide.{decLt}
@@ -11,9 +11,9 @@ use native.Mathlib.Omega.{arith}
 use lib.Dec.{ltb, eqb}
 use lib.ListN.{length, drop}
 use borrow.Author.Tests.{lt-ltb, ltb-true}
-use Rattle.laws.specs.Lemmas.Truth.{true-both, clash, false-if}
+use Rattle.laws.specs.Lemmas.Truth.{true-both, clash}
 use Rattle.laws.specs.Scan.{lowest, total}
-use Rattle.laws.specs.Lemmas.Scan.{nowhere→, →nowhere}
+use Rattle.laws.specs.Lemmas.Scan.{nowhere→}
 use Rattle.laws.specs.declared.Lowest.{Lowest}
 use Rattle.laws.specs.declared.Lowest.the-variants.{At, Nowhere}
 use Rattle.laws.specs.Splice.{part}
@@ -29,9 +29,10 @@ use Rattle.map.specs.Map.{mapAt, freeCount}
 use Rattle.view.specs.Disk.{File, takes, used, fileOf, Used}
 use Rattle.view.specs.Lemmas.Kept.{file-at, file-out}
 use Rattle.image.specs.Image.{viewOf, filesIn, DiskRules}
-use Rattle.record.specs.Record.{shapeOf, Files, Call, check, page, paged, put, remove, Answer, Turn, numberIn, Outcome, refused, refuseIf, isNamed, named, Removes, isEmpty, slotOf, emptySlot, judgePut, putting, stepFiles}
+use Rattle.record.specs.Record.{shapeOf, Files, Call, check, page, paged, put, remove, Answer, Turn, numberIn, Outcome, refused, refuseIf, named, Removes, isEmpty, slotOf, emptySlot, judgePut, putting, stepFiles}
 use Rattle.record.specs.declared.Judged.{Judged}
 use Rattle.record.specs.declared.Judged.the-variants.{Refuse, Grant}
+use Rattle.record.specs.Types.{named-exactly, slot-none}
 use Rattle.record.specs.Order.{roomFor, order-room}
 use Rattle.record.specs.Lemmas.Update.{area-split, free-is}
 use Rattle.record.specs.Step.{imageAfter, stepImage}
@@ -165,12 +166,9 @@ module _ (k : Kind) (d : Density) (f n : ℕ) (img : List ℕ) (yes : checkOf im
   files = filesIn l img
 
   no-slot : ((t : ℕ) (file : File) → files t ≡ some file → Removes l (remove name type) file → ⊥) → slotOf l files name type ≡ Nowhere
-  unfolding slotOf
-  no-slot new = →nowhere (λ t. named l name type (files t)) 0 (l .slots) (λ t p q. go t (files t) refl)
-    where
-      go : (t : ℕ) (w : Option File) → files t ≡ w → named l name type (files t) ≡ false
-      go t none e = ap (named l name type) e
-      go t (some file) e = ap (named l name type) e ∙ false-if (isNamed l name type file) (λ x. new t file e (name, type, refl, x))
+  no-slot new =
+      slot-none l files name type
+      (λ s h. new s (h .0) (h .1) (name, type, refl, sym (ap (named l name type) (h .1)) ∙ named-exactly l files name type s .1 h))
 
   pub some-slot : (s : ℕ) → s < l .slots → files s ≡ none → (r : ℕ) × (emptySlot l files ≡ At r)
   unfolding emptySlot

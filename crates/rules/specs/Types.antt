@@ -13,7 +13,7 @@ use lib.ListN.{length}
 use borrow.Author.Tests.{eqb-true, le-ltb}
 use Rattle.laws.specs.Lemmas.Truth.{both-true, clash}
 use Rattle.laws.specs.Lists.{same}
-use Rattle.laws.specs.Lemmas.Scan.{at→, nowhere→}
+use Rattle.laws.specs.Lemmas.Scan.{at→}
 use Rattle.laws.specs.declared.Lowest.{Lowest}
 use Rattle.laws.specs.declared.Lowest.the-variants.{At, Nowhere}
 use Rattle.laws.specs.declared.Refusal.{Refusal}
@@ -26,12 +26,12 @@ use Rattle.blocks.specs.Blocks.{blocksFor}
 use Rattle.names.specs.Names.{legalName, legalType, capitals}
 use Rattle.view.specs.Disk.{File}
 use Rattle.image.specs.Image.{filesIn, DiskRules, removeImage}
-use Rattle.record.specs.Record.{shapeOf, Files, Call, find, put, remove, Answer, Outcome, numberIn, placeOr, refused, refusedBy, valued, done, refuse, refuseIf, isLegal, named, Removes, keptFile, isEmpty, slotOf, emptySlot, free, judgeName, judgePut, finding, putting, removing}
+use Rattle.record.specs.Record.{shapeOf, Files, Call, find, put, remove, Answer, Outcome, numberIn, placeOr, refused, refusedBy, valued, done, refuse, refuseIf, isLegal, Removes, keptFile, isEmpty, slotOf, emptySlot, free, judgeName, judgePut, finding, putting, removing}
 use Rattle.record.specs.declared.Judged.{Judged}
 use Rattle.record.specs.declared.Judged.the-variants.{Refuse, Grant}
 use Rattle.record.specs.Order.{roomFor, order-illegal, order-missing, order-found, order-unfit, order-taken, order-full, order-room}
 use Rattle.record.specs.Others.{others}
-use Rattle.record.specs.Types.{Holds, named-exactly}
+use Rattle.record.specs.Types.{Holds, slot-at, slot-none, none-held}
 use Rattle.rules.specs.declared.Checked.the-variants.{Accepted}
 use Rattle.rules.specs.Check.{checkOf, came, callOf}
 use Rattle.rules.specs.Accepted.{acceptedAs, accepted-rules, rules-accepted}
@@ -70,6 +70,10 @@ same-slot s t e = ap (λ (o : Outcome (List ℕ)). o .answer .value) e
 same-number : {img out : List ℕ} (a b : Answer) → came a out img ≡ came b out img → numberIn (a .refusal) ≡ numberIn (b .refusal)
 same-number a b e = ap (λ (o : Outcome (List ℕ)). numberIn (o .answer .refusal)) e
 
+-- answers with two numbers are two
+other-number : {a b : Answer} → a ≡ b → (numberIn (a .refusal) ≡ numberIn (b .refusal) → ⊥) → ⊥
+other-number e n = n (ap (λ (x : Answer). numberIn (x .refusal)) e)
+
 module _ (k : Kind) (d : Density) (f n : ℕ) (img : List ℕ) (accept : checkOf img ≡ Accepted k d f n) where
   abbrev l : Layout
   l = layoutOf k d
@@ -81,19 +85,9 @@ module _ (k : Kind) (d : Density) (f n : ℕ) (img : List ℕ) (accept : checkOf
   rules = accepted-rules k d f n img accept
 
   module _ (name : List ℕ) (type : ℕ) where
-    no-slot : slotOf l files name type ≡ Nowhere → (s : ℕ) → Holds l files name type s → ⊥
-    unfolding slotOf
-    no-slot e s h =
-        clash (named-exactly l files name type s .1 h)
-        (nowhere→ (λ t. named l name type (files t)) 0 (l .slots) e s (omega arith) (omega (arith, slot-inside l img s (h .0) (h .1))))
-
-    at-slot : (s : ℕ) → slotOf l files name type ≡ At s → Holds l files name type s
-    unfolding slotOf
-    at-slot s e = named-exactly l files name type s .0 (at→ (λ t. named l name type (files t)) 0 (l .slots) s e .2)
-
     by-slot : isLegal l name type ≡ true → (w : Lowest) → slotOf l files name type ≡ w → Judges l files name type (judgeName l files name type)
-    by-slot p (At s) e = rw (order-found l files name type p e) (held p s (at-slot s e))
-    by-slot p Nowhere e = rw (order-missing l files name type p e) (missing p (no-slot e))
+    by-slot p (At s) e = rw (order-found l files name type p e) (held p s (slot-at l files name type s e))
+    by-slot p Nowhere e = rw (order-missing l files name type p e) (missing p (λ s h. none-held l files name type e s (slot-inside l img s (h .0) (h .1)) h))
 
     by-legal : (t : Bool) → isLegal l name type ≡ t → Judges l files name type (judgeName l files name type)
     by-legal false p = rw (order-illegal l files name type p) (illegal p)
@@ -171,9 +165,9 @@ module _ (k : Kind) (d : Density) (f n : ℕ) (img : List ℕ) (accept : checkOf
     module _ (content : List ℕ) (given : length content ≡ 0 → ⊥) where
       -- where no slot has name and type, put isn't refused by 12
       room-else : (t u : Bool) (s slot : ℕ) → putting img (λ s. img) (refuseIf t 15 (refuseIf u 16 (Grant s))) .answer ≡ refused 12 slot → ⊥
-      room-else true u s slot e = let z : _≡_ {A = ℕ} 15 12 = ap (λ (a : Answer). numberIn (a .refusal)) e in omega arith
-      room-else false true s slot e = let z : _≡_ {A = ℕ} 16 12 = ap (λ (a : Answer). numberIn (a .refusal)) e in omega arith
-      room-else false false s slot e = let z : _≡_ {A = ℕ} 0 12 = ap (λ (a : Answer). numberIn (a .refusal)) e in omega arith
+      room-else true u s slot e = other-number e (λ z. omega arith)
+      room-else false true s slot e = other-number e (λ z. omega arith)
+      room-else false false s slot e = other-number e (λ z. omega arith)
 
       put-by : (slot : ℕ) (j : Judged) → judgePut l files name type content ≡ j → putting img (λ s. img) (judgePut l files name type content) .answer ≡ refused 12 slot
           → putting img (λ s. img) j .answer ≡ refused 12 slot
@@ -182,8 +176,7 @@ module _ (k : Kind) (d : Density) (f n : ℕ) (img : List ℕ) (accept : checkOf
       else-slot : (slot : ℕ) → isLegal l name type ≡ true → slotOf l files name type ≡ Nowhere → (w : Lowest) → emptySlot l files ≡ w
           → putting img (λ s. img) (judgePut l files name type content) .answer ≡ refused 12 slot → ⊥
       else-slot slot p e Nowhere w h =
-          let z : _≡_ {A = ℕ} 14 12 = ap (λ (a : Answer). numberIn (a .refusal)) (put-by slot (refuse 14 0) (order-full l files name type content p given e w) h) in
-          omega arith
+          other-number (put-by slot (refuse 14 0) (order-full l files name type content p given e w) h) (λ z. omega arith)
       else-slot slot p e (At s) w h =
           room-else (ltb (free l files) (blocksFor (length content))) (ltb 16777215 (length content)) s slot
           (put-by slot (roomFor (free l files) (length content) s) (order-room l files name type content p given e w) h)
@@ -192,12 +185,12 @@ module _ (k : Kind) (d : Density) (f n : ℕ) (img : List ℕ) (accept : checkOf
           → putting img (λ s. img) (judgePut l files name type content) .answer ≡ refused 12 slot → Holds l files name type slot
       by-taken slot p (At s) e h =
           let z : s ≡ slot = ap (λ (a : Answer). placeOr (a .refusal) 0) (put-by slot (refuse 12 s) (order-taken l files name type content p given e) h) in
-          rw z at (at-slot s e)
+          rw z at (slot-at l files name type s e)
       by-taken slot p Nowhere e h = absurd (else-slot slot p e (emptySlot l files) refl h)
 
       by-form : (slot : ℕ) (t : Bool) → isLegal l name type ≡ t → putting img (λ s. img) (judgePut l files name type content) .answer ≡ refused 12 slot → Holds l files name type slot
       by-form slot false p h =
-          absurd (let z : _≡_ {A = ℕ} 11 12 = ap (λ (a : Answer). numberIn (a .refusal)) (put-by slot (refuse 11 0) (order-unfit l files name type content p) h) in omega arith)
+          absurd (other-number (put-by slot (refuse 11 0) (order-unfit l files name type content p) h) (λ z. omega arith))
       by-form slot true p h = by-taken slot p (slotOf l files name type) refl h
 
       -- Put answers 12 at a slot ↔ it holds a file with the name and the type; content being given.
@@ -220,13 +213,6 @@ module _ (k : Kind) (d : Density) (f n : ℕ) (img : List ℕ) (accept : checkOf
           other (z ∙ eqb-true kind (file .type) (both-true (same (capitals l given) (file .name)) (eqb kind (file .type)) is .1))
 
   -- ---- a second type
-
-  new-name : (name : List ℕ) (type : ℕ) → ((s : ℕ) → Holds l files name type s → ⊥) → slotOf l files name type ≡ Nowhere
-  new-name name type new = go (slotOf l files name type) refl
-    where
-      go : (w : Lowest) → slotOf l files name type ≡ w → slotOf l files name type ≡ Nowhere
-      go (At s) e = absurd (new s (at-slot name type s e))
-      go Nowhere e = e
 
   -- a content that fits the free blocks is granted
   fits : (size s : ℕ) → blocksFor size ≤ n → roomFor n size s ≡ Grant s
@@ -254,7 +240,7 @@ module _ (k : Kind) (d : Density) (f n : ℕ) (img : List ℕ) (accept : checkOf
     granted : callOf img putting-it .answer ≡ valued (empty-slot .0)
     granted =
         put-answer k d f n img accept (file .name) type content (Grant (empty-slot .0))
-        (judged-room k d f n img accept (file .name) type content typed (own-legal .0) (new-name (file .name) type new) given (empty-slot .0)
+        (judged-room k d f n img accept (file .name) type content typed (own-legal .0) (slot-none l files (file .name) type new) given (empty-slot .0)
         (empty-slot .1) ∙ fits (length content) (empty-slot .0) room)
 
     -- the slot was empty
