@@ -1,5 +1,7 @@
 // Bytes: numbers of two to four of them, copies, and the block writer. Each promise is an equation with `splice` or `part`.
 // Only the crates above call these; each `requires` is a bound that they have from the image's checked length or their own arguments.
+#![tactic(auto)]
+
 ghost use Rattle.std.specs.Prelude.{◌≡◌, ◌+◌, ◌-◌, ◌≤◌, ◌<◌, min, length, replicate};
 ghost use Rattle.laws.specs.Splice.{splice, part};
 ghost use Rattle.laws.specs.Padded.{padded};

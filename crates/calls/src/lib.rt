@@ -1,4 +1,6 @@
 // The calls on any bytes: each takes the check's answer apart first, salvage what is known of the image, and promises what `call_of` says it comes to.
+#![tactic(auto)]
+
 ghost use Rattle.std.specs.Prelude.{◌≡◌, List, [], ℕ, ◌≤◌, length, true};
 ghost use Rattle.laws.specs.Reader.{bytes};
 ghost use Rattle.map.specs.Map.{map_at, free_count};
@@ -13,35 +15,35 @@ ghost use Rattle.calls.specs.Answers.{found_of, found_by, paged_of, Lists, unlis
 ghost use Rattle.calls.specs.Metered.{page_cost, cost_in};
 
 // A slot, or a refusal.
-#[derive(Drop)]
+#[derive(Clone, Copy)]
 pub enum Found {
     At(usize),
     Refused(laws::Refusal),
 }
 
 // How many bytes a page has and whether the file ends with them, or a refusal.
-#[derive(Drop)]
+#[derive(Clone, Copy)]
 pub enum Paged {
     Page { count: usize, end: bool },
     Refused(laws::Refusal),
 }
 
 // What a page answers, and what it cost.
-#[derive(Drop)]
+#[derive(Clone, Copy)]
 pub struct Metered {
     pub paged: Paged,
     pub cost: pages::Cost,
 }
 
 // Done, or a refusal.
-#[derive(Drop)]
+#[derive(Clone, Copy)]
 pub enum Removed {
     Done,
     Refused(laws::Refusal),
 }
 
 // A file's name length, type byte and length, or a refusal.
-#[derive(Drop)]
+#[derive(Clone, Copy)]
 pub enum Entry {
     File {
         letters: usize,
@@ -52,7 +54,7 @@ pub enum Entry {
 }
 
 // An entry with its name in ASCII, then zeros.
-#[derive(Drop)]
+#[derive(Clone, Copy)]
 pub struct Listed {
     pub entry: Entry,
     pub name: [u8; 12],

@@ -132,7 +132,7 @@ fn set_name(image: &mut Image, at: usize, text: &[u8], from: usize, count: usize
 }
 
 // What a slot's line says: SLOT TYPE LENGTH START NAME, the name as where it begins.
-#[derive(Drop)]
+#[derive(Clone, Copy)]
 struct Fields {
     slot: usize,
     letter: u8,

@@ -20,6 +20,8 @@
 //   salvage SIZE                         mends the image with a report of SIZE bytes of 9, at most 4,096; prints the
 //                                        answer and all bytes of the report, in groups of eight: those past the slots
 //                                        are seen to be kept, and all of them on a refusal
+#![tactic(auto)]
+
 mod answers;
 mod build;
 mod line;

@@ -1,5 +1,7 @@
 // The map of an image's head: refusals 3 and 6 to 9, and the free blocks counted.
 // Only the check and the salvage run call these; that directory and map lie in the head is shown by its length.
+#![tactic(auto)]
+
 ghost use Rattle.std.specs.Prelude.{◌≡◌, false, ◌+◌, ◌-◌, ◌≤◌, ◌<◌, length, get_or, replicate};
 ghost use Rattle.laws.specs.Reader.{bytes};
 ghost use Rattle.laws.specs.Scan.{lowest, count};

@@ -1,5 +1,7 @@
 // What put and remove do to an accepted image, once the record has granted them a slot.
 // Only the public calls call these: the image's length and chains are the check's, slot, name and room the record's judgement.
+#![tactic(auto)]
+
 ghost use Rattle.std.specs.Prelude.{◌≡◌, ℕ, ◌+◌, ◌≤◌, ◌<◌, length};
 ghost use Rattle.laws.specs.Reader.{bytes};
 ghost use Rattle.laws.specs.Member.{In};

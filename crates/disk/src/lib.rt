@@ -1,5 +1,7 @@
 // The check (document 01, "The numbers given back"): refusals 1 to 9 in their order, and what an accepted image shows. Its first step, 1 and 2, is the
 // salvage run's too.
+#![tactic(auto)]
+
 ghost use Rattle.std.specs.Prelude.{◌≡◌, ◌≤◌, length};
 ghost use Rattle.laws.specs.Reader.{bytes};
 ghost use Rattle.laws.specs.Scan.{lowest};

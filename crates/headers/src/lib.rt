@@ -1,11 +1,13 @@
 // The tables of the headers of sample and program files (document 01, "The files"), and the lowest place where a header breaks its table.
+#![tactic(auto)]
+
 ghost use Rattle.std.specs.Prelude.{◌≡◌, ◌-◌, ◌≤◌, ◌<◌, take, drop};
 ghost use Rattle.rows.specs.Rows.{rows_fault};
 ghost use Rattle.headers.specs.Tables.{rows_of, part_of};
 
 use rows::Row;
 
-#[derive(Drop)]
+#[derive(Clone, Copy)]
 pub enum Table {
     Sample900,
     Sample1000,
@@ -153,7 +155,7 @@ const ROWS: [Row; 131] = [
 ];
 
 // The rows of a table: from the first on, below the end.
-#[derive(Drop)]
+#[derive(Clone, Copy)]
 struct Part {
     first: usize,
     end: usize,

@@ -1,16 +1,18 @@
 // The five kinds of floppy image, and where things lie on each: one record that all else is written over.
+#![tactic(auto)]
+
 ghost use Rattle.std.specs.Prelude.{◌≡◌};
 ghost use Rattle.layout.specs.Layouts.{layout_of, s900, s1000, s3000, blocks_of, first_data_of, length_of};
 
 // The sampler whose disk it is.
-#[derive(Drop)]
+#[derive(Clone, Copy)]
 pub enum Kind {
     S900,
     S1000,
     S3000,
 }
 
-#[derive(Drop)]
+#[derive(Clone, Copy)]
 pub enum Density {
     Low,
     High,
@@ -18,7 +20,7 @@ pub enum Density {
 
 // What a kind and a density fix (document 01, "The disk"). Every function and every proof above takes these from a
 // layout; only `layout_of` names them.
-#[derive(Drop)]
+#[derive(Clone, Copy)]
 pub struct Layout {
     // blocks of 1,024 bytes on the image, and the first that holds a file's bytes
     pub blocks: usize,

@@ -1,6 +1,8 @@
 // The listing program (document 01): reads an image on standard input, and writes what it holds or why it is refused.
 // `lines` makes all of the text in a lent output, where a promise says what it is; `run` alone reads and writes.
 // The functions that put a part of it say which text they put, and where the next one goes; outside, only `cases` calls them.
+#![tactic(auto)]
+
 ghost use Rattle.std.specs.Prelude.{◌≡◌, ◌++◌, ◌+◌, ◌≤◌, ◌<◌, length};
 ghost use Rattle.laws.specs.Reader.{bytes};
 ghost use Rattle.layout.specs.Layouts.{slot_offset};

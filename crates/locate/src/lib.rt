@@ -1,5 +1,7 @@
 // Which blocks hold a slot's file, on any bytes. A caller that keeps images elsewhere fetches these and the first 17,408 bytes alone: a page
 // reads no other (`page_enough`).
+#![tactic(auto)]
+
 ghost use Rattle.std.specs.Prelude.{◌≡◌, ◌≤◌, length};
 ghost use Rattle.laws.specs.Refusals.{filled};
 ghost use Rattle.laws.specs.Splice.{splice};

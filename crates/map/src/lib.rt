@@ -1,5 +1,7 @@
 // The map: its values, the blocks of a chain, lists of blocks, and what put and remove do to it.
 // Only the crates above call these. `Fits` is met by the image's checked length, `Chained` by the check's walk of that chain.
+#![tactic(auto)]
+
 ghost use Rattle.std.specs.Prelude.{◌≡◌, ℕ, ◌+◌, ◌^◌, ◌≤◌, ◌<◌, length, take, drop, get_or};
 ghost use Rattle.laws.specs.Reader.{bytes};
 ghost use Rattle.laws.specs.Member.{In};

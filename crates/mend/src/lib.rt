@@ -1,6 +1,8 @@
 // The salvage run (document 02, request four) on an image of a known layout: slots with a lower one's name and type are noted, the slots judged in rising
 // order, then the dropped ones erased, the system values restored and the stray blocks freed. Nothing of the image is written before all is judged, so that
 // chains are judged on the map as given.
+#![tactic(auto)]
+
 ghost use Rattle.std.specs.Prelude.{◌≡◌, true, false, not, ◌+◌, ◌-◌, ◌≤◌, ◌<◌, ltb, eqb, length, set, replicate};
 ghost use Rattle.laws.specs.Truth.{pick, both};
 ghost use Rattle.laws.specs.Scan.{any, count, those};

@@ -1,4 +1,6 @@
 // Names and types: AKAII both ways, what is legal on a layout, and a name's area on the disk.
+#![tactic(auto)]
+
 ghost use Rattle.std.specs.Prelude.{◌≡◌, true, length, take, drop, get_or, ◌-◌, ◌≤◌, ◌<◌};
 ghost use Rattle.laws.specs.Lists.{all_of, same};
 ghost use Rattle.laws.specs.Padded.{padded};
@@ -8,7 +10,7 @@ ghost use Rattle.names.specs.Akaii.{akaii_of, ascii_of, has_image, image_of};
 ghost use Rattle.names.specs.Names.{stored_byte, akaii_byte, ascii_byte, given_byte, to_disk, to_ascii, padding, legal_name, legal_type, area_of, legal_area, name_of};
 
 // A byte's image in the other code, or that it has none.
-#[derive(Drop)]
+#[derive(Clone, Copy)]
 pub enum Converted {
     Byte(u8),
     NoImage,

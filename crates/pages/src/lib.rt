@@ -1,5 +1,7 @@
 // A page of a file: bytes of a chain's blocks, copied in runs, and what that cost.
 // Only the page call calls this, once the check has accepted the image: its length and the chain's rule are the check's.
+#![tactic(auto)]
+
 ghost use Rattle.std.specs.Prelude.{◌≡◌, ◌+◌, ◌*◌, ◌^◌, ◌≤◌, ◌<◌, length};
 ghost use Rattle.laws.specs.Reader.{bytes};
 ghost use Rattle.laws.specs.Splice.{splice, part};
@@ -10,7 +12,7 @@ ghost use Rattle.map.specs.Map.{map_at, chain, Chained};
 ghost use Rattle.pages.specs.Cost.{cost_of};
 
 // The links followed from the chain's start on, and the runs copied.
-#[derive(Drop)]
+#[derive(Clone, Copy)]
 pub struct Cost {
     pub links: usize,
     pub runs: usize,

@@ -1,4 +1,6 @@
 // The check of S1000 program files (document 01, "The files"): a header and keygroups of 150 bytes each, every part by its table.
+#![tactic(auto)]
+
 ghost use Rattle.std.specs.Prelude.{◌≡◌, ◌*◌, ◌≤◌, length};
 ghost use Rattle.program.specs.Program.{table_of, parts_fault, refused_at, program_of};
 

@@ -1,12 +1,14 @@
 // Rules for the numbers of a header, as rows of a table (document 01, "The files"), and the lowest place where a row is broken.
 // Only the check of a header by its table calls these. An offset past the header's end reads as 0, as `bytes` does.
+#![tactic(auto)]
+
 ghost use Rattle.std.specs.Prelude.{◌≡◌, ◌+◌, ◌*◌, ◌<◌};
 ghost use Rattle.laws.specs.Reader.{bytes};
 ghost use Rattle.blocks.specs.Numbers.{Number, top};
 ghost use Rattle.rows.specs.Rows.{size_of, byte_run, each_run, group_run, Read, legal, breaks, place_of, run_fault, row_fault};
 
 // How many bytes a number has: 1, 2 or 4.
-#[derive(Drop)]
+#[derive(Clone, Copy)]
 pub enum Width {
     One,
     Two,
@@ -14,7 +16,7 @@ pub enum Width {
 }
 
 // What a number must be.
-#[derive(Drop)]
+#[derive(Clone, Copy)]
 pub enum Rule {
     // From the first to the second.
     From(u16, u16),
@@ -35,7 +37,7 @@ pub enum Rule {
 }
 
 // A row of a table: its offset, how many numbers where there are several, and what they must be.
-#[derive(Drop)]
+#[derive(Clone, Copy)]
 pub enum Row {
     // A byte that is this number.
     Only(u16, u16),
@@ -68,7 +70,7 @@ pub enum Row {
 }
 
 // A row as numbers under one rule: so many of a width from an offset on. Where `own` is set each is its own place, else the first.
-#[derive(Drop)]
+#[derive(Clone, Copy)]
 pub struct Run {
     pub at: u16,
     pub count: u16,

@@ -1,9 +1,11 @@
 // The check's answer, and what is known of an image before it; what they mean is in specs/.
+#![tactic(auto)]
+
 ghost use Rattle.std.specs.Prelude.{◌≡◌};
 ghost use Rattle.rules.specs.Check.{refusal_of};
 
 // An accepted image's kind and density, and its counts of files and free blocks; or a refusal.
-#[derive(Drop)]
+#[derive(Clone, Copy)]
 pub enum Checked {
     Accepted {
         kind: layout::Kind,
@@ -15,7 +17,7 @@ pub enum Checked {
 }
 
 // The kind and density that an image's length and its slots' identities say; or a refusal, 1 or 2.
-#[derive(Drop)]
+#[derive(Clone, Copy)]
 pub enum Known {
     Disk {
         kind: layout::Kind,

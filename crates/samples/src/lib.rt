@@ -1,4 +1,6 @@
 // S900 and S1000 sample files: unpacked to words, and packed. The two calls ask nothing of their caller; the other functions are theirs alone.
+#![tactic(auto)]
+
 ghost use Rattle.std.specs.Prelude.{◌≡◌, map, ◌+◌, ◌*◌, ◌/◌, ◌%◌, ◌≤◌, ◌<◌, eqb, length};
 ghost use Rattle.std.proofs.lemmas.List.Edits.{sets};
 ghost use Rattle.laws.specs.Truth.{both};
@@ -13,7 +15,7 @@ ghost use Rattle.samples.specs.Samples.{header_size, count_offset, table_of, dat
 use headers::Table;
 use laws::{Counted, Lowest};
 
-#[derive(Drop)]
+#[derive(Clone, Copy)]
 pub enum Sampler {
     S900,
     S1000,

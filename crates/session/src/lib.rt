@@ -1,4 +1,6 @@
 // A whole script of calls on one image: decoded from lent bytes, made in order, each answer and page written to its own part of a lent output.
+#![tactic(auto)]
+
 ghost use Rattle.std.specs.Prelude.{◌≡◌, ◌≤◌, length};
 ghost use Rattle.laws.specs.Splice.{splice, part};
 ghost use Rattle.record.specs.Record.{refused_by, paged};
@@ -7,7 +9,7 @@ ghost use Rattle.calls.specs.Answers.{found_of, paged_of, listed_of, removed_of,
 ghost use Rattle.session.specs.Script.{fits, flag, reply_with, reply_of, reply_bytes, shown_by, after_entry, put_entry, named_entry, entered_by, entered, after_run, run_of};
 
 // An answer with the fields of all answers: refusal or 0, place or value, type, whether the end is reached, name.
-#[derive(Drop)]
+#[derive(Clone, Copy)]
 pub struct Reply {
     pub number: usize,
     pub value: usize,

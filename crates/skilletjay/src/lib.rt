@@ -1,4 +1,6 @@
 // The C interface (include/skilletjay.h): each call takes any bytes, and promises every field of its result and every byte of a lent output.
+#![tactic(auto)]
+
 ghost use Rattle.std.specs.Prelude.{◌≡◌};
 ghost use Rattle.record.specs.Record.{check, list, find, page, put, remove, salvage, kind_number, density_number};
 ghost use Rattle.rules.specs.Check.{answer_of};
@@ -14,7 +16,7 @@ use samples::Sampler;
 
 // sj_checked: kind 900 or 1000, density 0 low or 1 high, the number of files and of free blocks.
 #[repr(C)]
-#[derive(Drop)]
+#[derive(Clone, Copy)]
 pub struct CChecked {
     pub refusal: u32,
     pub place: usize,
@@ -26,7 +28,7 @@ pub struct CChecked {
 
 // sj_listed: the name in ASCII, then zeros; the type byte; the file's length. The field `letter` is C's `type`.
 #[repr(C)]
-#[derive(Drop)]
+#[derive(Clone, Copy)]
 pub struct CListed {
     pub refusal: u32,
     pub place: usize,
@@ -37,7 +39,7 @@ pub struct CListed {
 
 // sj_found
 #[repr(C)]
-#[derive(Drop)]
+#[derive(Clone, Copy)]
 pub struct CFound {
     pub refusal: u32,
     pub place: usize,
@@ -46,7 +48,7 @@ pub struct CFound {
 
 // sj_paged: how many bytes were written, and whether the file ends with them.
 #[repr(C)]
-#[derive(Drop)]
+#[derive(Clone, Copy)]
 pub struct CPaged {
     pub refusal: u32,
     pub place: usize,
@@ -56,7 +58,7 @@ pub struct CPaged {
 
 // sj_done
 #[repr(C)]
-#[derive(Drop)]
+#[derive(Clone, Copy)]
 pub struct CDone {
     pub refusal: u32,
     pub place: usize,
@@ -64,7 +66,7 @@ pub struct CDone {
 
 // sj_counted: blocks of a file, words of a sample, bytes of a file, keygroups of a program, map values changed.
 #[repr(C)]
-#[derive(Drop)]
+#[derive(Clone, Copy)]
 pub struct CCounted {
     pub refusal: u32,
     pub place: usize,

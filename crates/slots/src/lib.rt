@@ -1,5 +1,7 @@
 // The directory of an image's head: a slot's fields, and refusals 2, 4 and 5 with the number of used slots.
 // Only the crates above call these; that the directory lies in the head is shown by its length.
+#![tactic(auto)]
+
 ghost use Rattle.std.specs.Prelude.{◌≡◌, true, not, ◌+◌, ◌≤◌, ◌<◌, length};
 ghost use Rattle.laws.specs.Reader.{bytes};
 ghost use Rattle.laws.specs.Scan.{lowest, any};

@@ -40,15 +40,15 @@ over_cong f g end i (suc n) h =
 module _ (f : ℕ → Bool) (i n : ℕ) where
   pub lowest_end : n ≤ i → lowest f i (n - i) ≡ Nowhere
   unfolding lowest
-  lowest_end h = over_end _ Nowhere i n h
+  lowest_end h = over_end (λ k rest. pick (f k) (At k) rest) Nowhere i n h
 
   pub lowest_stop : i < n → f i ≡ true → lowest f i (n - i) ≡ At i
   unfolding lowest
-  lowest_stop h e = over_next _ Nowhere i n h ∙ rw e refl
+  lowest_stop h e = over_next (λ k rest. pick (f k) (At k) rest) Nowhere i n h ∙ rw e refl
 
   pub lowest-on : i < n → f i ≡ false → lowest f i (n - i) ≡ lowest f (i + 1) (n - (i + 1))
   unfolding lowest
-  lowest-on h e = over_next _ Nowhere i n h ∙ rw e refl
+  lowest-on h e = over_next (λ k rest. pick (f k) (At k) rest) Nowhere i n h ∙ rw e refl
 
 -- tests that agree on the range are found at one place
 pub lowest_cong : (f g : ℕ → Bool) (i n : ℕ) → ((k : ℕ) → i ≤ k → k < i + n → f k ≡ g k) → lowest f i n ≡ lowest g i n
@@ -103,15 +103,15 @@ lowest_least f i (suc n) k e j h l t = go (lowest_least f (suc i) n k) (f i) ref
 module _ (f : ℕ → Bool) (i n : ℕ) where
   pub count_end : n ≤ i → count f i (n - i) ≡ 0
   unfolding count
-  count_end h = over_end _ 0 i n h
+  count_end h = over_end (λ k rest. pick (f k) (suc rest) rest) 0 i n h
 
   pub count_stop : i < n → f i ≡ true → count f i (n - i) ≡ suc (count f (i + 1) (n - (i + 1)))
   unfolding count
-  count_stop h e = over_next _ 0 i n h ∙ rw e refl
+  count_stop h e = over_next (λ k rest. pick (f k) (suc rest) rest) 0 i n h ∙ rw e refl
 
   pub count-on : i < n → f i ≡ false → count f i (n - i) ≡ count f (i + 1) (n - (i + 1))
   unfolding count
-  count-on h e = over_next _ 0 i n h ∙ rw e refl
+  count-on h e = over_next (λ k rest. pick (f k) (suc rest) rest) 0 i n h ∙ rw e refl
 
   pub count_yes : f i ≡ true → count f i (suc n) ≡ suc (count f (suc i) n)
   unfolding count
@@ -202,15 +202,15 @@ count-append f i (suc a) n = go (f i) refl (count-append f (suc i) a n)
 module _ (f : ℕ → Bool) (i n : ℕ) where
   pub those_end : n ≤ i → those f i (n - i) ≡ []
   unfolding those
-  those_end h = over_end _ [] i n h
+  those_end h = over_end (λ k rest. pick (f k) (k ∷ rest) rest) [] i n h
 
   pub those_stop : i < n → f i ≡ true → those f i (n - i) ≡ i ∷ those f (i + 1) (n - (i + 1))
   unfolding those
-  those_stop h e = over_next _ [] i n h ∙ rw e refl
+  those_stop h e = over_next (λ k rest. pick (f k) (k ∷ rest) rest) [] i n h ∙ rw e refl
 
   pub those-on : i < n → f i ≡ false → those f i (n - i) ≡ those f (i + 1) (n - (i + 1))
   unfolding those
-  those-on h e = over_next _ [] i n h ∙ rw e refl
+  those-on h e = over_next (λ k rest. pick (f k) (k ∷ rest) rest) [] i n h ∙ rw e refl
 
 pub those_cong : (f g : ℕ → Bool) (i n : ℕ) → ((k : ℕ) → i ≤ k → k < i + n → f k ≡ g k) → those f i n ≡ those g i n
 unfolding those
@@ -280,27 +280,27 @@ those-count f i (suc n) = go (those-count f (suc i) n) (f i) refl
 module _ (f : ℕ → Bool) (i n : ℕ) where
   pub all_end : n ≤ i → all f i (n - i) ≡ true
   unfolding all
-  all_end h = over_end _ true i n h
+  all_end h = over_end (λ k rest. both (f k) rest) true i n h
 
   pub all_stop : i < n → f i ≡ false → all f i (n - i) ≡ false
   unfolding all
-  all_stop h e = over_next _ true i n h ∙ rw e refl
+  all_stop h e = over_next (λ k rest. both (f k) rest) true i n h ∙ rw e refl
 
   pub all-on : i < n → f i ≡ true → all f i (n - i) ≡ all f (i + 1) (n - (i + 1))
   unfolding all
-  all-on h e = over_next _ true i n h ∙ rw e refl
+  all-on h e = over_next (λ k rest. both (f k) rest) true i n h ∙ rw e refl
 
   pub any_end : n ≤ i → any f i (n - i) ≡ false
   unfolding any
-  any_end h = over_end _ false i n h
+  any_end h = over_end (λ k rest. pick (f k) true rest) false i n h
 
   pub any_stop : i < n → f i ≡ true → any f i (n - i) ≡ true
   unfolding any
-  any_stop h e = over_next _ false i n h ∙ rw e refl
+  any_stop h e = over_next (λ k rest. pick (f k) true rest) false i n h ∙ rw e refl
 
   pub any-on : i < n → f i ≡ false → any f i (n - i) ≡ any f (i + 1) (n - (i + 1))
   unfolding any
-  any-on h e = over_next _ false i n h ∙ rw e refl
+  any-on h e = over_next (λ k rest. pick (f k) true rest) false i n h ∙ rw e refl
 
 pub all_cong : (f g : ℕ → Bool) (i n : ℕ) → ((k : ℕ) → i ≤ k → k < i + n → f k ≡ g k) → all f i n ≡ all g i n
 unfolding all
