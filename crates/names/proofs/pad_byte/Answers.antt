@@ -1,16 +1,13 @@
 -- `names::pad_byte` meets its contract: the padding is the fill up to byte 15 of the area, and then the last byte.
 -- An index of the area is one of the padding plus the name's length. Assumes nothing.
-use mathlib.Core.Path.{◌≡◌, sym, ◌∙◌}
-use mathlib.Core.List.{List, [], ◌∷◌}
-use Prim.Native.Nat.{ℕ, ◌-◌, ◌≤◌, ◌<◌}
-use native.Mathlib.Omega.{arith}
-use lib.ListN.{length, get_or, replicate, length-replicate, get_or-replicate, get_or-append}
-use lib.Seq.{get_or-append_seam}
-use borrow.Author.Rules.{rules}
+use Rattle.std.proofs.Common.{◌≡◌, sym, ◌∙◌, List, [], ◌∷◌, ℕ, ◌-◌, ◌≤◌, ◌<◌, arith, length, get_or, replicate}
+use Rattle.std.proofs.Math.ListN.{get_or-append}
+use Rattle.std.proofs.lemmas.List.{length-replicate}
 use Rattle.layout.specs.declared.Layout.{Layout}
 use Rattle.names.specs.Names.{padding}
-use Rattle.names.proofs.pad_byte.Statement.{statement}
-use Rattle.names.proofs.pad_byte.Tie as tie
+use lib.ListN.{get_or-replicate}
+use lib.Seq.{get_or-append_seam}
+use Rattle.names.proofs.pad_byte.Goals as goal
 
 pad_in : (l : Layout) (i : ℕ) → l.letters ≤ i → i < 15 → get_or (padding l) (i - l.letters) 0 ≡ l.pad
 unfolding padding
@@ -25,11 +22,8 @@ pad_last l i h k =
     let e : i - l.letters ≡ length pads = omega (arith, length-replicate {A = ℕ} (15 - l.letters) l.pad) in
     rw e (get_or-append_seam pads l.last [] 0)
 
-returns : tie.Need-returns
-returns c = sym (pad_in c.before.before.args.layout c.before.before.args.i c.before.before.requires.1 (omega arith))
+pub returns-then-i-lt15 : goal.returns-then-i-lt15
+returns-then-i-lt15 c = sym (pad_in c.args.layout c.args.i c.requires.1 (omega arith))
 
-returns-2 : tie.Need-returns-2
-returns-2 c = sym (pad_last c.before.before.args.layout c.before.before.args.i c.before.before.requires.1 (omega arith))
-
-pub pad-byte-spec : {M : Type 1} → statement M
-pad-byte-spec = tie.close (tie.spec (λ c. search rules) returns (λ c. search rules) returns-2)
+pub returns : goal.returns
+returns c = sym (pad_last c.args.layout c.args.i c.requires.1 (omega arith))

@@ -1,0 +1,14 @@
+-- `names::ascii_byte` meets its contract: in AKAII a code becomes its byte, else it stays.
+-- By the layout's choice, from what the callees ensure. Assumes nothing.
+use Rattle.std.proofs.Common.{refl, ap, ◌∙◌}
+use Rattle.names.specs.Akaii.{image_of}
+use Rattle.names.specs.Names.{to_ascii}
+use Rattle.names.proofs.ascii_byte.Goals as goal
+
+pub returns-then-layout : goal.returns-then-layout
+unfolding to_ascii
+returns-then-layout c = rw c.if-layout.true (c.image_of.ensures ∙ ap image_of c.to_ascii.ensures)
+
+pub returns : goal.returns
+unfolding to_ascii
+returns c = rw c.if-layout.false refl
