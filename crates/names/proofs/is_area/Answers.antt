@@ -8,8 +8,8 @@ use Rattle.names.proofs.is_area.Goals as goal
 
 pub returns-then-not-is_front : goal.returns-then-not-is_front
 unfolding legal_area
-returns-then-not-is_front c = rw (sym c.is_front.ensures ∙ not-true _ c.if-not-is_front.true) refl
+returns-then-not-is_front c = rw (sym c.is_front.ensures ∙ c.if-not-is_front.true) refl
 
 pub returns : goal.returns
 unfolding legal_area
-returns c = rw (sym c.is_front.ensures ∙ not-false _ c.if-not-is_front.false) c.is_padding.ensures
+returns c = rw (sym c.is_front.ensures ∙ c.if-not-is_front.false) c.is_padding.ensures

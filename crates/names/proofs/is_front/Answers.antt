@@ -19,7 +19,7 @@ returns-then-not-is_stored c =
     let n = length_front l c.requires.0 a c.requires.1 in
     let e : stored_byte l (get_or (take l.letters a) k.i 0) ≡ c.is_stored.result =
     ap (stored_byte l) (get_or-take l.letters a k.i 0 (omega arith)) ∙ sym c.is_stored.ensures in
-    sym (all_of_stop (stored_byte l) (take l.letters a) k.i (omega arith) (e ∙ not-true _ c.if-not-is_stored.true)) ∙ k.invariant.1
+    sym (all_of_stop (stored_byte l) (take l.letters a) k.i (omega arith) (e ∙ c.if-not-is_stored.true)) ∙ k.invariant.1
 
 pub loop-i-preserved : goal.loop-i-preserved
 loop-i-preserved c =
@@ -29,7 +29,7 @@ loop-i-preserved c =
     let n = length_front l c.requires.0 a c.requires.1 in
     let e : stored_byte l (get_or (take l.letters a) k.i 0) ≡ c.is_stored.result =
     ap (stored_byte l) (get_or-take l.letters a k.i 0 (omega arith)) ∙ sym c.is_stored.ensures in
-    (omega arith, sym (all_of_on (stored_byte l) (take l.letters a) k.i (omega arith) (e ∙ not-false _ c.if-not-is_stored.false)) ∙ k.invariant.1)
+    (omega arith, sym (all_of_on (stored_byte l) (take l.letters a) k.i (omega arith) (e ∙ c.if-not-is_stored.false)) ∙ k.invariant.1)
 
 pub returns : goal.returns
 returns c =

@@ -23,13 +23,13 @@ pub returns-then-not-is_given : goal.returns-then-not-is_given
 returns-then-not-is_given c =
     let k = c.loop-i in
     let a = c.args in
-    sym (all_of_stop (given_byte a.layout) a.name.now k.i (omega arith) (sym c.is_given.ensures ∙ not-true _ c.if-not-is_given.true)) ∙ k.invariant.1
+    sym (all_of_stop (given_byte a.layout) a.name.now k.i (omega arith) (sym c.is_given.ensures ∙ c.if-not-is_given.true)) ∙ k.invariant.1
 
 pub loop-i-preserved : goal.loop-i-preserved
 loop-i-preserved c =
     let k = c.loop-i in
     let a = c.args in
-    (omega arith, sym (all_of_on (given_byte a.layout) a.name.now k.i (omega arith) (sym c.is_given.ensures ∙ not-false _ c.if-not-is_given.false)) ∙ k.invariant.1)
+    (omega arith, sym (all_of_on (given_byte a.layout) a.name.now k.i (omega arith) (sym c.is_given.ensures ∙ c.if-not-is_given.false)) ∙ k.invariant.1)
 
 pub returns : goal.returns
 returns c =

@@ -26,19 +26,39 @@ returns-in-97-to-122 c =
 pub returns-in_default : goal.returns-in_default
 returns-in_default c =
     let a = c.args.ascii in
-    sym (akaii_other a (within_below 48 57 a (omega arith)) (within_below 65 90 a (omega arith)) (within_below 97 122 a (omega arith)) c.in_default.rest)
+    sym (akaii_other a (within_below 48 57 a (omega arith)) (within_below 65 90 a (omega arith)) (within_below 97 122 a (omega arith)) c.in_default.in_default-own.rest)
 
 pub returns-in_default-2 : goal.returns-in_default-2
 returns-in_default-2 c =
     let a = c.args.ascii in
-    sym (akaii_other a (within_above 48 57 a (omega arith)) (within_below 65 90 a (omega arith)) (within_below 97 122 a (omega arith)) c.in_default.rest)
+    sym (akaii_other a (within_above 48 57 a (omega arith)) (within_below 65 90 a (omega arith)) (within_below 97 122 a (omega arith)) c.in_default.in_default-own.rest)
 
 pub returns-in_default-3 : goal.returns-in_default-3
 returns-in_default-3 c =
     let a = c.args.ascii in
-    sym (akaii_other a (within_above 48 57 a (omega arith)) (within_above 65 90 a (omega arith)) (within_below 97 122 a (omega arith)) c.in_default.rest)
+    sym (akaii_other a (within_above 48 57 a (omega arith)) (within_above 65 90 a (omega arith)) (within_below 97 122 a (omega arith)) c.in_default.in_default-own.rest)
 
 pub returns-in_default-4 : goal.returns-in_default-4
 returns-in_default-4 c =
     let a = c.args.ascii in
-    sym (akaii_other a (within_above 48 57 a (omega arith)) (within_above 65 90 a (omega arith)) (within_above 97 122 a (omega arith)) c.in_default.rest)
+    sym (akaii_other a (within_above 48 57 a (omega arith)) (within_above 65 90 a (omega arith)) (within_above 97 122 a (omega arith)) c.in_default.in_default-own.rest)
+
+pub returns-in-32 : goal.returns-in-32
+unfolding akaii_of
+returns-in-32 c = rw c.in-32.is refl
+
+pub returns-in-35 : goal.returns-in-35
+unfolding akaii_of
+returns-in-35 c = rw c.in-35.is refl
+
+pub returns-in-43 : goal.returns-in-43
+unfolding akaii_of
+returns-in-43 c = rw c.in-43.is refl
+
+pub returns-in-45 : goal.returns-in-45
+unfolding akaii_of
+returns-in-45 c = rw c.in-45.is refl
+
+pub returns-in-46 : goal.returns-in-46
+unfolding akaii_of
+returns-in-46 c = rw c.in-46.is refl
