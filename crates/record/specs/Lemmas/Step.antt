@@ -66,6 +66,8 @@ reading_keeps shape files (list s) (reads_list _) = listing-keeps files (file_at
 reading_keeps shape files (find name type) (reads_find _ _) = finding-keeps files (judge_name shape.layout files name type)
 reading_keeps shape files (page s offset out) (reads-page _ _ _) = paging-keeps files (file_at shape.layout files s) offset out
 reading_keeps shape files (salvage report) (reads_salvage _) = salvaging-keeps files shape.layout report
+reading_keeps shape files (put _ _ _) reads = elim reads [ ]
+reading_keeps shape files (remove _ _) reads = elim reads [ ]
 
 -- ---- one call
 
