@@ -1,7 +1,7 @@
 -- The map values on a chain, and what a value that is neither a link nor the end mark makes of one (document 01, "The disk": 6 before its last
 -- block, 7 at it). Along the chain, block by block. Assumes nothing.
 use Rattle.std.specs.Prelude.{◌≡◌, ◌⊎◌, get_or}
-use Rattle.std.proofs.Common.{sym, ap, ◌∙◌, arith}
+use Rattle.std.proofs.Common.{ap, ◌∙◌, arith}
 use Rattle.std.proofs.Math.Logic.{inl, inr}
 use Prim.Native.Nat.{ℕ, zero, suc, ◌≤◌, ◌<◌}
 use Rattle.laws.specs.Member.{In}

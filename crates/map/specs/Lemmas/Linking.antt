@@ -57,12 +57,12 @@ off_outside bs n i h (inr p) b j = inr (omega (arith, h b j))
 pub length_link : (img bs : List ℕ) (mark : ℕ) → length (link_blocks img bs mark) ≡ length img
 unfolding link_blocks
 length_link img [] mark = refl
-length_link img (b ∷ bs) mark = length_link _ bs mark ∙ length-set-map img _ _
+length_link img (b ∷ bs) mark = length_link (set_map img b (first_or bs mark)) bs mark ∙ length-set-map img _ _
 
 pub link_off : (img bs : List ℕ) (mark i : ℕ) → Off bs i → bytes (link_blocks img bs mark) i ≡ bytes img i
 unfolding link_blocks
 link_off img [] mark i o = refl
-link_off img (b ∷ bs) mark i o = link_off _ bs mark i (λ x k. o x (inr k)) ∙ set_off img b _ i (o b (inl refl))
+link_off img (b ∷ bs) mark i o = link_off (set_map img b (first_or bs mark)) bs mark i (λ x k. o x (inr k)) ∙ set_off img b _ i (o b (inl refl))
 
 pub link_other : (img bs : List ℕ) (mark c : ℕ) → (In c bs → ⊥) → map_at (bytes (link_blocks img bs mark)) c ≡ map_at (bytes img) c
 link_other img bs mark c n = number_cong 2 (bytes img) (bytes (link_blocks img bs mark)) (map_offset c) (λ i x y. link_off img bs mark i (off_other bs c i n x y))

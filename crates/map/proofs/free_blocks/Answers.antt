@@ -1,0 +1,61 @@
+-- `map::free_blocks` meets its contract: the blocks collected and those still wanted of the rest are those wanted of the whole.
+-- Each block passed is free, and collected, or it isn't; the loop stops where none is left or none is wanted. Assumes nothing.
+use Rattle.std.proofs.Common.{◌≡◌, sym, ◌∙◌, ◌-◌, ◌<◌, arith, ltb-true, ltb-false}
+use Rattle.laws.specs.Reader.{bytes}
+use Rattle.map.specs.Lemmas.Collect.{collect_none, collect_one, collect_end, wanted_stop, wanted_on, wanted_end, wanted_full}
+use Rattle.map.specs.Map.{map_at, free_blocks}
+use Rattle.map.proofs.free_blocks.Goals.{then-map_at-eq0, else-map_at-eq0}
+use Rattle.map.proofs.free_blocks.Goals as goal
+
+pub loop-block-init : goal.loop-block-init
+loop-block-init c =
+    let e : c.args.wanted - 0 ≡ c.args.wanted = omega arith in
+    (c.requires.1.data_some, omega arith, collect_none _ _ (rw e))
+
+pub overflow_cast-list : goal.overflow_cast-list
+overflow_cast-list c = omega (arith, c.requires.1.blocks_most)
+
+pub bounds-list-count : goal.bounds-list-count
+bounds-list-count c = omega (arith, c.requires.1.blocks_most)
+
+pub overflow_add-count : goal.overflow_add-count
+overflow_add-count c = omega (arith, c.requires.1.blocks_most)
+
+pub loop-block-preserved : goal.loop-block-preserved
+loop-block-preserved c =
+    let l = c.loop-block in
+    let a = c.args in
+    let m = map_at (bytes a.image.now) in
+    let end = a.layout.blocks in
+    let value = c.map_at.ensures in
+    let more : l.count < a.wanted = omega (arith, ltb-true) in
+    elim c.if-map_at-eq0.branch [
+      | then-map_at-eq0 w ↦
+          let rest = wanted_stop m l.block end l.count a.wanted (omega arith) more (sym value ∙ w.if-map_at-eq0.true) in (
+            omega arith,
+            omega arith,
+            rw (w.list-is, w.count-is) (collect_one l.list l.count l.block rest l.invariant.2),
+          )
+      | else-map_at-eq0 w ↦
+          let rest = wanted_on m l.block end l.count a.wanted (omega arith) (λ z. w.if-map_at-eq0.false (value ∙ z)) in (
+            omega arith,
+            omega arith,
+            rw (w.list-is, w.count-is, ← rest) l.invariant.2,
+          )
+    ]
+
+pub returns-else-count-wanted : goal.returns-else-count-wanted
+unfolding free_blocks
+returns-else-count-wanted c =
+    let l = c.loop-block in
+    let a = c.args in
+    let none = wanted_full (map_at (bytes a.image.now)) l.block a.layout.blocks l.count a.wanted (omega (arith, ltb-false)) in
+    collect_end (record { list = l.list; count = l.count }) (omega (arith, c.requires.1.blocks_most)) none l.invariant.2
+
+pub returns-after-loop-block : goal.returns-after-loop-block
+unfolding free_blocks
+returns-after-loop-block c =
+    let l = c.loop-block in
+    let a = c.args in
+    let none = wanted_end (map_at (bytes a.image.now)) l.block a.layout.blocks l.count a.wanted (omega arith) in
+    collect_end (record { list = l.list; count = l.count }) (omega (arith, c.requires.1.blocks_most)) none l.invariant.2

@@ -1,0 +1,30 @@
+-- `map::nth_block` meets its contract: after k turns the block in hand is the k-th of the chain, and k links more are counted.
+-- A faultless chain's blocks are data blocks, so each has a map value to read. Assumes nothing.
+use Rattle.std.proofs.Common.{◌≡◌, refl, ap, ◌∙◌, ℕ, arith, get_or}
+use Rattle.laws.specs.Reader.{bytes}
+use Rattle.map.specs.Lemmas.Chains.{nth_first, nth_data, nth_next}
+use Rattle.map.specs.Map.{map_at, chain}
+use Rattle.map.proofs.nth_block.Goals as goal
+
+pub loop-k-init : goal.loop-k-init
+loop-k-init c = (omega arith, nth_first _ _ _, omega arith)
+
+pub follow-block-requires : goal.follow-block-requires
+follow-block-requires c = (omega (arith, (nth_data c.args.layout (map_at (bytes c.args.image.now)) c.args.links c.args.start c.loop-k.k c.requires.1 (omega arith) c.loop-k.invariant.1).1), omega arith)
+
+pub loop-k-preserved : goal.loop-k-preserved
+loop-k-preserved c =
+    let l = c.loop-k in
+    let a = c.args in
+    let f = c.follow-block.ensures in
+    (omega arith, nth_next (map_at (bytes a.image.now)) a.links a.start l.k l.invariant.1 f.value (omega arith) refl, omega (arith, f.followed_after))
+
+pub returns : goal.returns
+returns c =
+    let l = c.loop-k in
+    let a = c.args in
+    let e : l.k ≡ a.n = omega arith in
+    record {
+      value = l.invariant.1 ∙ ap (λ (i : ℕ). get_or (chain (map_at (bytes a.image.now)) a.links a.start) i 0) e;
+      followed_after = omega arith;
+    }
