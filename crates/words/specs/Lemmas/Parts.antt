@@ -41,7 +41,7 @@ get_or-parts f size each i (suc n) (suc k) j h l =
 
 pub parts_cong : (f g : ℕ → List ℕ) (n : ℕ) → ((k : ℕ) → k < n → f k ≡ g k) → parts f 0 n ≡ parts g 0 n
 unfolding parts
-parts_cong f g n h = over_cong _ _ [] 0 n (λ k p q r. ap (λ (x : List ℕ). x ++ r) (h k (omega arith)))
+parts_cong f g n h = over_cong (λ k r. f k ++ r) (λ k r. g k ++ r) [] 0 n (λ k p q r. ap (λ (x : List ℕ). x ++ r) (h k (omega arith)))
 
 -- pairs one after another
 pub parts_pairs : (f : ℕ → ℕ) (i n : ℕ) → parts (λ k. f (2 * k) ∷ f (2 * k + 1) ∷ []) i n ≡ tab f (2 * i) (2 * n)
@@ -72,12 +72,12 @@ module _ {A : Type 0} (f : ℕ → List A) (size at n : ℕ) (l₀ : List A) whe
     left =
         let next : at + size * (i + 1) ≡ at + size * i + length (f i) = rw (add-one i, mul-suc size i, e) (sym (add_assoc at (size * i) size)) in
         rw (p, next) (sets_append l (at + size * i) (f i) (parts f (i + 1) (n - (i + 1))))
-        ∙ ap (sets l (at + size * i)) (sym (over_next _ [] i n h)) ∙ w.left;
+        ∙ ap (sets l (at + size * i)) (sym (over_next (λ k r. f k ++ r) [] i n h)) ∙ w.left;
   }
 
   pub written_all : {l : List A} {i : ℕ} → Written f size at n l₀ l i → n ≤ i → l ≡ sets l₀ at (parts f 0 n)
   unfolding parts
-  written_all {l} {i} w h = sym (ap (sets l (at + size * i)) (over_end _ [] i n h)) ∙ w.left
+  written_all {l} {i} w h = sym (ap (sets l (at + size * i)) (over_end (λ k r. f k ++ r) [] i n h)) ∙ w.left
 
 -- its turn by one element, and by two, with indices and values as the code has them
 pub written_one : {A : Type 0} (g : ℕ → A) (at n : ℕ) (l₀ : List A) {l : List A} {i j : ℕ} {v : A}
