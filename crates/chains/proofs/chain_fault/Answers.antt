@@ -1,0 +1,123 @@
+-- `chains::chain_fault` meets its contract: the rest of a chain's walk answers as the whole, and the slots left answer as all; marked are
+-- the blocks of lower slots' chains. Each way out of a loop and each turn is one law of a walk's steps, of marks or of a search. Assumes nothing.
+use Rattle.std.proofs.Common.{◌≡◌, refl, sym, ap, ◌∙◌, Bool, true, false, not, List, ℕ, ◌+◌, ◌-◌, ◌<◌, arith}
+use Rattle.std.proofs.Math.Nat.{sub-zero}
+use Rattle.std.proofs.lemmas.Bool.{not-false}
+use Rattle.blocks.specs.Blocks.{links_for}
+use Rattle.chains.specs.Lemmas.Tally.{empty_marks, chain_marks}
+use Rattle.chains.specs.Passes.{Followed}
+use Rattle.image.specs.Image.{view_of}
+use Rattle.laws.specs.Lemmas.Scan.{lowest_end, lowest_stop, lowest-on}
+use Rattle.laws.specs.Lemmas.Truth.{true_both, false_both}
+use Rattle.laws.specs.Reader.{bytes}
+use Rattle.laws.specs.Refusals.{refusal_at}
+use Rattle.laws.specs.Scan.{lowest}
+use Rattle.laws.specs.declared.Lowest.TheVariants.{At}
+use Rattle.layout.specs.Right.{LayoutRight}
+use Rattle.layout.specs.declared.Layout.{Layout}
+use Rattle.map.specs.Lemmas.Chains.{chain_data}
+use Rattle.map.specs.Lemmas.Marks.{marks_none, mark_last, mark_next}
+use Rattle.map.specs.Lemmas.Walks.{link_data, walk_chained, walk_bad, walk_whole, walk-over, walk_cut, walk-on}
+use Rattle.map.specs.Map.{map_at, is_link, chain, Chained, Walk, Whole, Bad, Cut, walk, is_whole, fault_of, marked, Marks}
+use Rattle.view.specs.Disk.{View, used, owned}
+use Rattle.view.specs.Rules.{walk_of, broken, or_fail}
+use Rattle.view.specs.declared.Ruled.TheVariants.{Pass, Fail}
+use borrow.Author.Tests.{not-true}
+use Rattle.chains.proofs.chain_fault.Goals as goal
+
+-- ---- a slot's walk and the search's test
+
+module _ (l : Layout) (v : View) (s : ℕ) where
+  walk_starts : (k b : ℕ) → k ≡ links_for (v.entry s).size → b ≡ (v.entry s).start → walk_of l v s ≡ walk l v.map k b
+  unfolding walk_of
+  walk_starts k b x y = rw (x, y)
+
+  empty_sound : used (v.entry s) ≡ false → broken l v s ≡ false
+  unfolding broken
+  empty_sound e = rw e
+
+  whole_sound : walk_of l v s ≡ Whole → broken l v s ≡ false
+  unfolding broken
+  whole_sound e = false_both (used (v.entry s)) (not (is_whole (walk_of l v s))) (λ u. ap (λ (w : Walk). not (is_whole w)) e)
+
+  -- the lowest slot whose walk is not whole is the fault, by the refusal of its walk
+  stop_at : (n : ℕ) (w : Walk) → s < n → used (v.entry s) ≡ true → walk_of l v s ≡ w → is_whole w ≡ false → lowest (broken l v) 0 n ≡ lowest (broken l v) s (n - s)
+      → Fail (refusal_at (fault_of w) s) ≡ or_fail (λ t. fault_of (walk_of l v t)) (lowest (broken l v) 0 n) Pass
+  stop_at n w h u e f i =
+      let bad : broken l v s ≡ true = unfold broken in true_both (used (v.entry s)) (not (is_whole (walk_of l v s))) u (ap (λ (x : Walk). not (is_whole x)) e ∙ ap not f) in
+      let found : lowest (broken l v) 0 n ≡ At s = i ∙ lowest_stop (broken l v) s n h bad in
+      rw (found, e)
+
+  -- with a faultless chain's they are the marks of one slot more
+  whole_marks : LayoutRight l → (k b : ℕ) → used (v.entry s) ≡ true → k ≡ links_for (v.entry s).size → b ≡ (v.entry s).start → walk_of l v s ≡ Whole
+      → (ms : List Bool) → Marks 1600 ms (owned v s) → Marks 1600 (marked ms (chain v.map k b)) (owned v (s + 1))
+  whole_marks right k b u x y w ms m =
+      let c : Chained l v.map k b = walk_chained l v.map k b (sym (walk_starts k b x y) ∙ w) in
+      chain_marks v s u k b x y (λ i h. omega (arith, (chain_data l right v.map k b i c h).1, right.blocks_most)) ms m
+
+-- ---- the slots
+
+-- ---- a chain's blocks
+
+pub slots-init : goal.slots-init
+unfolding owned
+slots-init c = (omega arith, rw c.requires.2 (marks_none 1600), rw sub-zero)
+
+pub slots-preserved-then-not-is_used : goal.slots-preserved-then-not-is_used
+slots-preserved-then-not-is_used c =
+    let i = c.slots.invariant in
+    let e = sym c.is_used.ensures ∙ c.if-not-is_used.true in
+    (omega (arith, c.if-end-next.false), empty_marks _ _ e _ i.1, i.2 ∙ lowest-on _ _ _ c.if-end-next.false (empty_sound _ _ _ e))
+
+pub loop-layout-init : goal.loop-layout-init
+loop-layout-init c = (walk_starts _ _ _ _ _ c.links_of-left.ensures c.start_of-block.ensures, refl)
+
+pub returns-then-end-next : goal.returns-then-end-next
+returns-then-end-next c =
+    let i = c.slots.invariant in
+    let a = c.args in
+    let z : c.slots.next ≡ a.layout.slots = omega arith in
+    let e = i.2 ∙ lowest_end _ _ _ c.if-end-next.true in
+    record { fault = rw e; marks_all = λ _. rw z at i.1 }
+
+pub bounds-marks-block : goal.bounds-marks-block
+bounds-marks-block c =
+    let linked : (is_link c.args.layout c.loop-layout.block ≡ true) = sym c.is_link.ensures ∙ c.if-not-is_link.false in
+    omega (arith, (link_data _ _ linked).1, c.requires.0.blocks_most)
+
+pub map_at-value-requires : goal.map_at-value-requires
+map_at-value-requires c =
+    let linked : (is_link c.args.layout c.loop-layout.block ≡ true) = sym c.is_link.ensures ∙ c.if-not-is_link.false in
+    omega (arith, (link_data _ _ linked).1)
+
+pub slots-preserved : goal.slots-preserved
+slots-preserved c =
+    let linked : (is_link c.args.layout c.loop-layout.block ≡ true) = sym c.is_link.ensures ∙ c.if-not-is_link.false in
+    let i = c.slots.invariant in
+    let w = c.loop-layout.invariant.0 ∙ walk_whole _ _ _ _ _ linked c.map_at-value.ensures c.if-left-eq0.true c.if-value-mark.true in
+    let used_is = sym c.is_used.ensures ∙ c.if-not-is_used.false in
+    let m = whole_marks _ _ _ c.requires.0 _ _ used_is c.links_of-left.ensures c.start_of-block.ensures w _ i.1 in
+    (omega (arith, c.if-end-next.false), rw (c.loop-layout.invariant.1 ∙ mark_last _ _ _ _ c.if-left-eq0.true) at m, i.2 ∙ lowest-on _ _ _ c.if-end-next.false (whole_sound _ _ _ w))
+
+pub loop-layout-preserved : goal.loop-layout-preserved
+loop-layout-preserved c =
+    let linked : (is_link c.args.layout c.loop-layout.block ≡ true) = sym c.is_link.ensures ∙ c.if-not-is_link.false in
+    let i = c.loop-layout.invariant in
+    (i.0 ∙ walk-on _ _ _ _ _ linked c.map_at-value.ensures c.if-left-eq0.false c.if-value-mark-2.false, i.1 ∙ mark_next _ _ _ _ _ c.map_at-value.ensures c.if-left-eq0.false)
+
+pub returns-then-not-is_link : goal.returns-then-not-is_link
+returns-then-not-is_link c =
+    let stopped : ((w : Walk) → (let a = c.args in let v = view_of a.layout (bytes a.head.now) in let s = c.slots.next in walk a.layout (map_at (bytes a.head.now)) c.loop-layout.left c.loop-layout.block ≡ w → is_whole w ≡ false → (ms : List Bool) → Followed a.layout v ms (Fail (refusal_at (fault_of w) s)))) = λ w e f ms. record { fault = stop_at _ _ _ _ w c.if-end-next.false (sym c.is_used.ensures ∙ c.if-not-is_used.false) (c.loop-layout.invariant.0 ∙ e) f c.slots.invariant.2; marks_all = λ p. let z : ◌≡◌ {A = ℕ} 0 1 = cc in absurd (omega arith) } in
+    stopped Bad (walk_bad _ _ _ _ (sym c.is_link.ensures ∙ c.if-not-is_link.true)) refl _
+
+pub returns-else-value-mark : goal.returns-else-value-mark
+returns-else-value-mark c =
+    let linked : (is_link c.args.layout c.loop-layout.block ≡ true) = sym c.is_link.ensures ∙ c.if-not-is_link.false in
+    let stopped : ((w : Walk) → (let a = c.args in let v = view_of a.layout (bytes a.head.now) in let s = c.slots.next in walk a.layout (map_at (bytes a.head.now)) c.loop-layout.left c.loop-layout.block ≡ w → is_whole w ≡ false → (ms : List Bool) → Followed a.layout v ms (Fail (refusal_at (fault_of w) s)))) = λ w e f ms. record { fault = stop_at _ _ _ _ w c.if-end-next.false (sym c.is_used.ensures ∙ c.if-not-is_used.false) (c.loop-layout.invariant.0 ∙ e) f c.slots.invariant.2; marks_all = λ p. let z : ◌≡◌ {A = ℕ} 0 1 = cc in absurd (omega arith) } in
+    stopped Cut (walk-over _ _ _ _ _ linked c.map_at-value.ensures c.if-left-eq0.true c.if-value-mark.false) refl _
+
+pub returns-then-value-mark-2 : goal.returns-then-value-mark-2
+returns-then-value-mark-2 c =
+    let linked : (is_link c.args.layout c.loop-layout.block ≡ true) = sym c.is_link.ensures ∙ c.if-not-is_link.false in
+    let stopped : ((w : Walk) → (let a = c.args in let v = view_of a.layout (bytes a.head.now) in let s = c.slots.next in walk a.layout (map_at (bytes a.head.now)) c.loop-layout.left c.loop-layout.block ≡ w → is_whole w ≡ false → (ms : List Bool) → Followed a.layout v ms (Fail (refusal_at (fault_of w) s)))) = λ w e f ms. record { fault = stop_at _ _ _ _ w c.if-end-next.false (sym c.is_used.ensures ∙ c.if-not-is_used.false) (c.loop-layout.invariant.0 ∙ e) f c.slots.invariant.2; marks_all = λ p. let z : ◌≡◌ {A = ℕ} 0 1 = cc in absurd (omega arith) } in
+    stopped Cut (walk_cut _ _ _ _ _ linked c.map_at-value.ensures c.if-left-eq0.false c.if-value-mark-2.true) refl _

@@ -1,0 +1,16 @@
+-- `chains::count_free` meets its contract: the free blocks counted and those of the blocks left are all of them.
+-- Each turn is one law of a count. Assumes nothing.
+use Rattle.std.proofs.Common.{◌≡◌, Bool, List, ℕ, ◌+◌, ◌-◌, ◌≤◌, eqb}
+use Rattle.laws.specs.Reader.{bytes}
+use Rattle.laws.specs.Scan.{count}
+use Rattle.map.specs.Map.{map_at}
+use Rattle.chains.proofs.count_free.Given as goal
+
+abbrev pub is_free : List ℕ → ℕ → Bool
+is_free head block = eqb (map_at (bytes head) block) 0
+
+abbrev pub invariant-loop-block : goal.invariant-loop-block
+invariant-loop-block l = (l.free ≤ l.block) × (l.block ≤ l.end) × (l.free + count (is_free l.head) l.block (l.end - l.block) ≡ count (is_free l.head) l.initial.block (l.end - l.initial.block))
+
+abbrev pub decreases-loop-block : goal.decreases-loop-block
+decreases-loop-block l = l.end - l.block

@@ -1,0 +1,93 @@
+-- `chains::share_fault` meets its contract: marked are the blocks of lower slots' chains, so a slot that comes upon one shares it.
+-- No chain is broken, so each is a faultless one to walk; the slots left answer as all. Assumes nothing.
+use Rattle.std.proofs.Common.{◌≡◌, sym, ap, ◌∙◌, Bool, true, false, List, ℕ, ◌+◌, ◌<◌, arith, rules}
+use Rattle.std.proofs.Math.Nat.{sub-zero}
+use Rattle.std.proofs.lemmas.Bool.{not-false}
+use Rattle.blocks.specs.Blocks.{links_for}
+use Rattle.chains.specs.Lemmas.Tally.{empty_marks, chain_marks, slot_chained}
+use Rattle.image.specs.Image.{view_of}
+use Rattle.laws.specs.Lemmas.Scan.{lowest_end, lowest_stop, lowest-on}
+use Rattle.laws.specs.Lists.{meets}
+use Rattle.laws.specs.Member.{In}
+use Rattle.laws.specs.Reader.{bytes}
+use Rattle.laws.specs.Scan.{lowest}
+use Rattle.laws.specs.declared.Lowest.TheVariants.{Nowhere}
+use Rattle.layout.specs.Right.{LayoutRight}
+use Rattle.layout.specs.declared.Layout.{Layout}
+use Rattle.map.specs.Lemmas.Chains.{chain_data}
+use Rattle.map.specs.Lemmas.Marks.{marks_none, touched-meets}
+use Rattle.map.specs.Map.{chain, Chained, touched, marked, Marks}
+use Rattle.view.specs.Disk.{View, used, chain_of, owned}
+use Rattle.view.specs.Rules.{broken, sharing}
+use borrow.Author.Tests.{not-true}
+use Rattle.chains.proofs.share_fault.Goals as goal
+
+-- ---- an empty slot: nothing is shared
+
+empty_apart : (v : View) (s : ℕ) → used (v.entry s) ≡ false → (l : Layout) → sharing l v s ≡ false
+unfolding sharing
+empty_apart v s empty l = rw empty
+
+-- ---- a used slot, its chain walked with k links from block b
+
+record Walked (l : Layout) (v : View) (s k b : ℕ) : Type 0 where
+  chained : Chained l v.map k b
+  inside : (x : ℕ) → In x (chain v.map k b) → x < 1600
+  all : chain_of v s ≡ chain v.map k b
+  marks : (ms : List Bool) → Marks 1600 ms (owned v s) → Marks 1600 (marked ms (chain v.map k b)) (owned v (s + 1))
+
+module _ (l : Layout) (v : View) (s k b : ℕ) where
+  -- where no chain is broken, a used slot's is faultless
+  slot_walked : LayoutRight l → lowest (broken l v) 0 l.slots ≡ Nowhere → s < l.slots → used (v.entry s) ≡ true → k ≡ links_for (v.entry s).size → b ≡ (v.entry s).start
+      → Walked l v s k b
+  unfolding chain_of
+  slot_walked right sound h u links start =
+      let c : Chained l v.map k b = rw (links, start) (slot_chained l right v sound s h u) in
+      let inside : (x : ℕ) → In x (chain v.map k b) → x < 1600 = λ x i. omega (arith, (chain_data l right v.map k b x c i).1, right.blocks_most) in
+      record { chained = c; inside = inside; all = rw (u, links, start); marks = chain_marks v s u k b links start inside }
+
+  -- it shares a block where it touches the marks of the slots below
+  shared_is : Walked l v s k b → (ms : List Bool) → Marks 1600 ms (owned v s) → sharing l v s ≡ touched ms (chain v.map k b)
+  unfolding sharing
+  shared_is w ms m = ap (meets (owned v s)) w.all ∙ sym (touched-meets 1600 ms (owned v s) (chain v.map k b) w.inside m)
+
+pub loop-next-init : goal.loop-next-init
+unfolding owned
+loop-next-init c = (search rules, rw c.requires.3 (marks_none 1600), rw sub-zero)
+
+pub loop-next-preserved-then-not-is_used : goal.loop-next-preserved-then-not-is_used
+loop-next-preserved-then-not-is_used c =
+    let i = c.loop-next.invariant in
+    let a = c.args in
+    let v = view_of a.layout (bytes a.head.now) in
+    let e : used (v.entry c.loop-next.next) ≡ false = sym c.is_used.ensures ∙ c.if-not-is_used.true in
+    (omega arith, empty_marks v _ e _ i.1, i.2 ∙ lowest-on _ _ _ c.loop-next-test.true (empty_apart v _ e _))
+
+pub touches-requires : goal.touches-requires
+touches-requires c =
+    let walked : ((let a = c.args in Walked a.layout (view_of a.layout (bytes a.head.now)) c.loop-next.next c.links_of-links.result c.start_of-start.result)) = let p = c.requires in slot_walked _ _ _ _ _ p.0 p.2 c.loop-next-test.true (sym c.is_used.ensures ∙ c.if-not-is_used.false) c.links_of-links.ensures c.start_of-start.ensures in
+    (search rules, c.requires.0, walked.chained)
+
+pub mark_chain-requires : goal.mark_chain-requires
+mark_chain-requires c =
+    let walked : ((let a = c.args in Walked a.layout (view_of a.layout (bytes a.head.now)) c.loop-next.next c.links_of-links.result c.start_of-start.result)) = let p = c.requires in slot_walked _ _ _ _ _ p.0 p.2 c.loop-next-test.true (sym c.is_used.ensures ∙ c.if-not-is_used.false) c.links_of-links.ensures c.start_of-start.ensures in
+    (search rules, c.requires.0, walked.chained)
+
+pub returns-then-touches : goal.returns-then-touches
+returns-then-touches c =
+    let walked : ((let a = c.args in Walked a.layout (view_of a.layout (bytes a.head.now)) c.loop-next.next c.links_of-links.result c.start_of-start.result)) = let p = c.requires in slot_walked _ _ _ _ _ p.0 p.2 c.loop-next-test.true (sym c.is_used.ensures ∙ c.if-not-is_used.false) c.links_of-links.ensures c.start_of-start.ensures in
+    let shared : ((let a = c.args in sharing a.layout (view_of a.layout (bytes a.head.now)) c.loop-next.next ≡ c.touches.result)) = shared_is _ _ _ _ _ walked _ c.loop-next.invariant.1 ∙ sym c.touches.ensures in
+    sym (c.loop-next.invariant.2 ∙ lowest_stop _ _ _ c.loop-next-test.true (shared ∙ c.if-touches.true))
+
+pub loop-next-preserved : goal.loop-next-preserved
+loop-next-preserved c =
+    let walked : ((let a = c.args in Walked a.layout (view_of a.layout (bytes a.head.now)) c.loop-next.next c.links_of-links.result c.start_of-start.result)) = let p = c.requires in slot_walked _ _ _ _ _ p.0 p.2 c.loop-next-test.true (sym c.is_used.ensures ∙ c.if-not-is_used.false) c.links_of-links.ensures c.start_of-start.ensures in
+    let shared : ((let a = c.args in sharing a.layout (view_of a.layout (bytes a.head.now)) c.loop-next.next ≡ c.touches.result)) = shared_is _ _ _ _ _ walked _ c.loop-next.invariant.1 ∙ sym c.touches.ensures in
+    let i = c.loop-next.invariant in (
+      omega (arith, c.loop-next-test.true),
+      rw c.mark_chain.ensures (walked.marks _ i.1),
+      i.2 ∙ lowest-on _ _ _ c.loop-next-test.true (shared ∙ c.if-touches.false),
+    )
+
+pub returns : goal.returns
+returns c = sym (c.loop-next.invariant.2 ∙ lowest_end _ _ _ c.loop-next-test.false)
