@@ -1,0 +1,17 @@
+-- `mend::chain_said` meets its contract: what is said of the rest of the chain, after what was met so far, is what is said of the whole chain, and the blocks
+-- gone through are noted. The block in hand is a data block before it is looked up, so below 1,600. Assumes nothing.
+use Rattle.std.proofs.Common.{◌≡◌, false, ◌-◌, ◌≤◌, get_or}
+use Rattle.laws.specs.Reader.{bytes}
+use Rattle.map.specs.Map.{map_at, chain}
+use Rattle.mend.specs.Lemmas.Noting.{Noting}
+use Rattle.mend.specs.Steps.{chain_said}
+use Rattle.mend.proofs.chain_said.Given as goal
+
+abbrev pub invariant-loop-layout : goal.invariant-loop-layout
+invariant-loop-layout l =
+    (l.k ≤ l.links)
+    × (chain_said l.layout (map_at (bytes l.image)) l.marks false l.links l.start ≡ chain_said l.layout (map_at (bytes l.image)) l.marks l.shared (l.links - l.k) l.block)
+    × (l.block ≡ get_or (chain (map_at (bytes l.image)) l.links l.start) l.k 0) × Noting l.list (chain (map_at (bytes l.image)) l.links l.start) l.k
+
+abbrev pub decreases-loop-layout : goal.decreases-loop-layout
+decreases-loop-layout l = l.links - l.k

@@ -1,0 +1,28 @@
+-- `mend::mark_kept` meets its contract: the marks of the kept chains grow by the slot's if it is kept, and stay if it isn't.
+-- A kept slot's chain is faultless and stands in the list; one that isn't kept is empty afterwards. Assumes nothing.
+use Rattle.std.proofs.Common.{sym, ◌∙◌, arith}
+use Rattle.mend.specs.Lemmas.Verdicts.{gone_marks, kept_listed, kept_marks}
+use Rattle.mend.proofs.mark_kept.Goals as goal
+
+pub returns-then-verdict-ne1 : goal.returns-then-verdict-ne1
+returns-then-verdict-ne1 c =
+    let p = c.requires in
+    gone_marks _ _ _ (λ e. c.if-verdict-ne1.true (p.3 ∙ e)) _ p.5
+
+pub overflow_add-count : goal.overflow_add-count
+overflow_add-count c =
+    let p = c.requires in
+    let is = c.if-verdict-ne1.false in
+    omega (arith, (kept_listed _ _ _ (sym p.3 ∙ is) p.0 c.links_of-count.ensures is p.4).0)
+
+pub mark_blocks-requires : goal.mark_blocks-requires
+mark_blocks-requires c =
+    let p = c.requires in
+    let is = c.if-verdict-ne1.false in
+    kept_listed _ _ _ (sym p.3 ∙ is) p.0 c.links_of-count.ensures is p.4
+
+pub returns : goal.returns
+returns c =
+    let p = c.requires in
+    let is = c.if-verdict-ne1.false in
+    kept_marks _ _ _ (sym p.3 ∙ is) p.0 c.links_of-count.ensures is p.4 _ p.5 c.mark_blocks.ensures

@@ -1,0 +1,9 @@
+-- `mend::name_stands` meets its contract: where no used slot below has name and type no kept one has them, and else they are gone through.
+-- A kept slot is a used one. Assumes nothing.
+use Rattle.std.proofs.Common.{sym, ◌∙◌}
+use Rattle.mend.specs.Lemmas.Verdicts.{kept_none}
+use borrow.Author.Tests.{not-true}
+use Rattle.mend.proofs.name_stands.Goals as goal
+
+pub returns-then-not-twice : goal.returns-then-not-twice
+returns-then-not-twice c = sym (kept_none _ _ _ _ c.requires.2 (sym c.requires.3 ∙ c.if-not-twice.true))
