@@ -36,7 +36,7 @@ module _ (file : List ℕ) (n k : ℕ) {at end : ℕ} {table : Table} {f : Lowes
 
   rest_by : {g : Lowest} → f ≡ g → or_else g (parts_fault file (k + 1) (n - (k + 1))) ≡ parts_fault file 0 n
   unfolding parts_fault
-  rest_by t = ap (λ (x : Lowest). or_else x (parts_fault file (k + 1) (n - (k + 1)))) (sym t ∙ part_is) ∙ sym (over_next _ Nowhere k n h) ∙ v
+  rest_by t = ap (λ (x : Lowest). or_else x (parts_fault file (k + 1) (n - (k + 1)))) (sym t ∙ part_is) ∙ sym (over_next (λ i rest. or_else (part_fault file i) rest) Nowhere k n h) ∙ v
 
   pub part_stop : {place : ℕ} → f ≡ At place → At place ≡ parts_fault file 0 n
   part_stop t = rest_by t
@@ -46,7 +46,7 @@ module _ (file : List ℕ) (n k : ℕ) {at end : ℕ} {table : Table} {f : Lowes
 
 pub parts_end : (file : List ℕ) (n k : ℕ) → RestOf file n k → n ≤ k → Nowhere ≡ parts_fault file 0 n
 unfolding parts_fault
-parts_end file n k v h = sym (over_end _ Nowhere k n h) ∙ v
+parts_end file n k v h = sym (over_end (λ i rest. or_else (part_fault file i) rest) Nowhere k n h) ∙ v
 
 -- ---- the answer
 
