@@ -12,16 +12,16 @@ SECONDS ?= 60
 PROVED := target/staticlib/libskilletjay.a
 LIBRARY := target/lib/libskilletjay.a
 SJ := host/target/release/sj
-# Folders too, so that a file that is added or removed counts as a change.
-CRATES := crates.txt $(shell find crates)
+# Folders too, so that a file that is added or removed counts as a change; but not out, where rt keeps its work, nor the folders that it stands in.
+CRATES := crates.txt $(shell find crates -mindepth 2 -regex 'crates/[^/]*/out' -prune -o -print)
 HOST := $(shell find host -path host/target -prune -o -print)
 
-# Runs rt; each crate is told as soon as it is proved, and the whole log where one is not.
-prove = mkdir -p target; rt $(1) 2>&1 | tee target/rt.log | { grep --line-buffered '^rt:' || true; } || { cat target/rt.log >&2; exit 1; }
+# Runs rt on a crate, in its folder; each crate below it that rt turns to is told, and the whole log where one is not proved.
+prove = mkdir -p target; (cd crates/$(1) && rt $(2)) 2>&1 | tee target/rt.log | { grep --line-buffered '^rt:' || true; } || { cat target/rt.log >&2; exit 1; }
 
-run:
-	@echo 'Proving the worked disks and the listing program: some minutes, unless they are proved already'
-	@$(call prove,check table list)
+run: target/bin/list
+	@echo 'Proving the worked disks: some minutes, unless they are proved already'
+	@$(call prove,table,check)
 	@echo 'The worked disks and words P1 to P13 hold: crates/table/specs/Table.antt'
 	@echo 'The disk crates/list/stdin holds:'
 	@target/bin/list < crates/list/stdin
@@ -31,8 +31,9 @@ test:
 
 $(PROVED): $(CRATES)
 	@echo 'Proving the library: some minutes, unless it is proved already'
-	@$(call prove,staticlib skilletjay)
-	@touch $@
+	@$(call prove,skilletjay_c,lib)
+	@mkdir -p $(@D)
+	@cp crates/skilletjay_c/out/libskilletjay_c.a $@
 
 $(LIBRARY): $(PROVED) c/sj_words.c include/skilletjay.h
 	@mkdir -p $(@D)
@@ -44,6 +45,13 @@ $(SJ): $(PROVED) $(HOST)
 	@echo 'Building sj: a minute'
 	@cd host && cargo build --offline --quiet --release -p sj
 	@touch $@
+
+# A program: rt proves and builds it, and runs it on nothing.
+target/bin/%: $(CRATES)
+	@echo 'Proving the program $*: some minutes, unless it is proved already'
+	@$(call prove,$*,run < /dev/null)
+	@mkdir -p $(@D)
+	@cp crates/$*/out/$* $@
 
 library: $(LIBRARY)
 	@echo '$(LIBRARY) is up to date'

@@ -1,4 +1,4 @@
-//! Links the archive of the proved library, which `rt staticlib skilletjay` makes at the repository's root.
+//! Links the archive of the proved library, which `make library` makes at the repository's root.
 
 use std::path::Path;
 
@@ -9,7 +9,7 @@ fn main() {
     println!("cargo::rerun-if-changed={}", archive.display());
     if !archive.is_file() {
         println!(
-            "cargo::error=no {}: make it with `rt staticlib skilletjay` at the repository's root",
+            "cargo::error=no {}: make it with `make library` at the repository's root",
             archive.display()
         );
         return;

@@ -2,10 +2,11 @@
 ghost use Rattle.std.specs.Prelude.{◌<◌};
 
 use crate::print;
-use libc::STDOUT_FILENO;
+use std::io::{Print, Result};
+use std::rt::Stdout;
 
 // The line of a slot's listing.
-pub(crate) fn print_listed(listed: calls::Listed) {
+pub(crate) fn print_listed(output: Stdout, listed: calls::Listed) -> Result<()> {
     let entry = listed.entry;
     let name = listed.name;
     match entry {
@@ -13,29 +14,30 @@ pub(crate) fn print_listed(listed: calls::Listed) {
             letters,
             letter,
             length,
-        } => print::file(letters, letter, length, name),
-        calls::Entry::Refused(refusal) => print::refused(refusal),
+        } => print::file(output, letters, letter, length, name),
+        calls::Entry::Refused(refusal) => print::refused(output, refusal),
     }
 }
 
-fn print_found(found: calls::Found) {
+fn print_found(output: Stdout, found: calls::Found) -> Result<()> {
     match found {
         calls::Found::At(slot) => {
-            print::number(b"slot ", slot);
-            print::line_end();
+            print::number(output, b"slot ", slot)?;
+            print::line_end(output)
         }
-        calls::Found::Refused(refusal) => print::refused(refusal),
+        calls::Found::Refused(refusal) => print::refused(output, refusal),
     }
 }
 
 // Finds the file of the type at `at`, its name between the brackets two bytes on and at the text's end, and prints the answer.
-pub(crate) fn find(image: &[u8], text: &[u8], at: usize) {
+pub(crate) fn find(output: Stdout, image: &[u8], text: &[u8], at: usize) -> Result<()> {
     let end = text.len();
     if at < end {
         if end - at >= 4 {
-            print_found(calls::find(image, &text[at + 3..end - 1], text[at]));
+            print_found(output, calls::find(image, &text[at + 3..end - 1], text[at]))?;
         }
     }
+    Ok(())
 }
 
 fn wide(byte: u8) -> usize
@@ -56,135 +58,186 @@ fn sum_of(out: &[u8]) -> usize {
 }
 
 // The first four bytes, each after a space.
-fn print_front(out: &[u8]) {
+fn print_front(output: Stdout, out: &[u8]) -> Result<()> {
     let mut i = 0;
     while i < out.len() {
         if i == 4 {
             break;
         }
-        print::number(b" ", wide(out[i]));
+        print::number(output, b" ", wide(out[i]))?;
         i += 1;
     }
+    Ok(())
 }
 
-fn print_count(count: usize, end: bool) {
-    print::number(b"count ", count);
+fn print_count(output: Stdout, count: usize, end: bool) -> Result<()> {
+    print::number(output, b"count ", count)?;
     if end {
-        io::write_all(STDOUT_FILENO, b" end");
+        output.write_all(b" end")
     } else {
-        io::write_all(STDOUT_FILENO, b" more");
+        output.write_all(b" more")
     }
 }
 
 // A page's answer, without its line's end.
-fn print_answer(paged: calls::Paged) {
+fn print_answer(output: Stdout, paged: calls::Paged) -> Result<()> {
     match paged {
-        calls::Paged::Page { count, end } => print_count(count, end),
-        calls::Paged::Refused(refusal) => print::refusal(refusal),
+        calls::Paged::Page { count, end } => print_count(output, count, end),
+        calls::Paged::Refused(refusal) => print::refusal(output, refusal),
     }
 }
 
 // The line of a page: the answer, then the output, which a refusal must have kept.
-fn print_paged(paged: calls::Paged, out: &[u8]) {
-    print_answer(paged);
-    print_front(out);
-    print::number(b" sum ", sum_of(out));
-    print::line_end();
+fn print_paged(output: Stdout, paged: calls::Paged, out: &[u8]) -> Result<()> {
+    print_answer(output, paged)?;
+    print_front(output, out)?;
+    print::number(output, b" sum ", sum_of(out))?;
+    print::line_end(output)
 }
 
 // Pages into all of the output, and prints the answer.
-fn page_to(image: &[u8], slot: usize, offset: usize, out: &mut [u8]) {
+fn page_to(output: Stdout, image: &[u8], slot: usize, offset: usize, out: &mut [u8]) -> Result<()> {
     let paged = calls::page(image, slot, offset, out);
-    print_paged(paged, out);
+    print_paged(output, paged, out)
 }
 
 // Pages into the output's first bytes, as many as asked for.
-fn page_part(image: &[u8], slot: usize, offset: usize, out: &mut [u8], size: usize) {
+fn page_part(
+    output: Stdout,
+    image: &[u8],
+    slot: usize,
+    offset: usize,
+    out: &mut [u8],
+    size: usize,
+) -> Result<()> {
     if size <= out.len() {
-        page_to(image, slot, offset, &mut out[0..size]);
+        page_to(output, image, slot, offset, &mut out[0..size])?;
     }
+    Ok(())
 }
 
-fn page_into(image: &[u8], slot: usize, offset: usize, out: &mut [u8; 4096], size: usize) {
-    page_part(image, slot, offset, out, size);
+fn page_into(
+    output: Stdout,
+    image: &[u8],
+    slot: usize,
+    offset: usize,
+    out: &mut [u8; 4096],
+    size: usize,
+) -> Result<()> {
+    page_part(output, image, slot, offset, out, size)
 }
 
 // Pages into `size` bytes of 238, at most 4,096, and prints the answer.
-pub(crate) fn page(image: &[u8], slot: usize, offset: usize, size: usize) {
+pub(crate) fn page(
+    output: Stdout,
+    image: &[u8],
+    slot: usize,
+    offset: usize,
+    size: usize,
+) -> Result<()> {
     let mut out = [238u8; 4096];
-    page_into(image, slot, offset, &mut out, size);
+    page_into(output, image, slot, offset, &mut out, size)
 }
 
 // The line of a page's cost: the answer, then the cost.
-fn print_metered(metered: calls::Metered) {
+fn print_metered(output: Stdout, metered: calls::Metered) -> Result<()> {
     let paged = metered.paged;
     let cost = metered.cost;
-    print_answer(paged);
-    print::number(b" links ", cost.links);
-    print::number(b" runs ", cost.runs);
-    print::line_end();
+    print_answer(output, paged)?;
+    print::number(output, b" links ", cost.links)?;
+    print::number(output, b" runs ", cost.runs)?;
+    print::line_end(output)
 }
 
 // Pages into the output's first bytes, as many as asked for, and prints what that cost.
-fn cost_part(image: &[u8], slot: usize, offset: usize, out: &mut [u8], size: usize) {
+fn cost_part(
+    output: Stdout,
+    image: &[u8],
+    slot: usize,
+    offset: usize,
+    out: &mut [u8],
+    size: usize,
+) -> Result<()> {
     if size <= out.len() {
-        print_metered(calls::metered_page(image, slot, offset, &mut out[0..size]));
+        let metered = calls::metered_page(image, slot, offset, &mut out[0..size]);
+        print_metered(output, metered)?;
     }
+    Ok(())
 }
 
-fn cost_into(image: &[u8], slot: usize, offset: usize, out: &mut [u8; 65536], size: usize) {
-    cost_part(image, slot, offset, out, size);
+fn cost_into(
+    output: Stdout,
+    image: &[u8],
+    slot: usize,
+    offset: usize,
+    out: &mut [u8; 65536],
+    size: usize,
+) -> Result<()> {
+    cost_part(output, image, slot, offset, out, size)
 }
 
 // Pages into `size` bytes, at most 65,536, and prints what that cost.
-pub(crate) fn cost(image: &[u8], slot: usize, offset: usize, size: usize) {
-    let mut out = io::large_buffer();
-    cost_into(image, slot, offset, &mut out, size);
+pub(crate) fn cost(
+    output: Stdout,
+    image: &[u8],
+    slot: usize,
+    offset: usize,
+    size: usize,
+) -> Result<()> {
+    let mut out = [0u8; 65536];
+    cost_into(output, image, slot, offset, &mut out, size)
 }
 
 // The answer of a salvage run, without its line's end.
-fn print_counted(counted: laws::Counted) {
+fn print_counted(output: Stdout, counted: laws::Counted) -> Result<()> {
     match counted {
-        laws::Counted::Done(count) => print::number(b"count ", count),
-        laws::Counted::Refused(refusal) => print::refusal(refusal),
+        laws::Counted::Done(count) => print::number(output, b"count ", count),
+        laws::Counted::Refused(refusal) => print::refusal(output, refusal),
     }
 }
 
 // All bytes of a report in groups of eight, each group after a space.
-fn print_report(report: &[u8]) {
+fn print_report(output: Stdout, report: &[u8]) -> Result<()> {
     let mut i = 0;
     while i < report.len() {
         let said = wide(report[i]);
         if i % 8 == 0 {
-            print::number(b" ", said);
+            print::number(output, b" ", said)?;
         } else {
-            print::number(b"", said);
+            print::number(output, b"", said)?;
         }
         i += 1;
     }
+    Ok(())
 }
 
 // Mends the image with all of the report, and prints the answer and the report, which a refusal must have kept.
-fn salvage_to(image: &mut [u8], report: &mut [u8]) {
+fn salvage_to(output: Stdout, image: &mut [u8], report: &mut [u8]) -> Result<()> {
     let counted = calls::salvage(image, report);
-    print_counted(counted);
-    print_report(report);
-    print::line_end();
+    print_counted(output, counted)?;
+    print_report(output, report)?;
+    print::line_end(output)
 }
 
 // Mends the image with the report's first bytes, as many as asked for.
-fn salvage_part(image: &mut [u8], report: &mut [u8], size: usize) {
+fn salvage_part(output: Stdout, image: &mut [u8], report: &mut [u8], size: usize) -> Result<()> {
     if size <= report.len() {
-        salvage_to(image, &mut report[0..size]);
+        salvage_to(output, image, &mut report[0..size])?;
     }
+    Ok(())
 }
 
-fn salvage_into(image: &mut [u8], report: &mut [u8; 4096], size: usize) {
-    salvage_part(image, report, size);
+fn salvage_into(
+    output: Stdout,
+    image: &mut [u8],
+    report: &mut [u8; 4096],
+    size: usize,
+) -> Result<()> {
+    salvage_part(output, image, report, size)
 }
 
 // Mends the image with a report of `size` bytes of 9, at most 4,096, and prints the answer.
-pub(crate) fn salvage(image: &mut [u8], size: usize) {
+pub(crate) fn salvage(output: Stdout, image: &mut [u8], size: usize) -> Result<()> {
     let mut report = [9u8; 4096];
-    salvage_into(image, &mut report, size);
+    salvage_into(output, image, &mut report, size)
 }

@@ -27,15 +27,16 @@ mod build;
 mod line;
 mod print;
 
-use libc::{STDIN_FILENO, STDOUT_FILENO};
+use std::io::{Print, Result};
+use std::rt::Stdout;
 
 // Room for the longest image and one byte more, so that one that is too long can be asked about.
 pub(crate) type Image = [u8; 1638401];
 
 // Prints the line, with its end.
-fn print_text(text: &[u8]) {
-    io::write_all(STDOUT_FILENO, text);
-    print::line_end();
+fn print_text(output: Stdout, text: &[u8]) -> Result<()> {
+    output.write_all(text)?;
+    print::line_end(output)
 }
 
 // Runs a command that changes the image, and gives the image's length after it.
@@ -63,77 +64,81 @@ fn store(image: &mut Image, length: usize, text: &[u8]) -> usize {
 }
 
 // Runs a command that asks something of the image.
-fn ask(image: &[u8], text: &[u8]) {
+fn ask(output: Stdout, image: &[u8], text: &[u8]) -> Result<()> {
     let a = line::number(text, line::word_end(text, 0));
     let b = line::number(text, a.next);
     let c = line::number(text, b.next);
     match line::byte_at(text, 0) {
-        b'#' => print_text(text),
-        b'c' => print::checked(disk::check(image)),
-        b'l' => answers::print_listed(calls::list(image, a.value)),
-        b'f' => answers::find(image, text, 5),
-        b'p' => answers::page(image, a.value, b.value, c.value),
-        b't' => answers::cost(image, a.value, b.value, c.value),
-        _ => {}
+        b'#' => print_text(output, text),
+        b'c' => print::checked(output, disk::check(image)),
+        b'l' => answers::print_listed(output, calls::list(image, a.value)),
+        b'f' => answers::find(output, image, text, 5),
+        b'p' => answers::page(output, image, a.value, b.value, c.value),
+        b't' => answers::cost(output, image, a.value, b.value, c.value),
+        _ => Ok(()),
     }
 }
 
 // Runs a command on the image's first bytes, as many as it has.
-fn ask_part(image: &[u8], length: usize, text: &[u8]) {
+fn ask_part(output: Stdout, image: &[u8], length: usize, text: &[u8]) -> Result<()> {
     if length <= image.len() {
-        ask(&image[0..length], text);
+        ask(output, &image[0..length], text)?;
     }
+    Ok(())
 }
 
-fn ask_first(image: &Image, length: usize, text: &[u8]) {
-    ask_part(image, length, text);
+fn ask_first(output: Stdout, image: &Image, length: usize, text: &[u8]) -> Result<()> {
+    ask_part(output, image, length, text)
 }
 
 // Runs a command that mends the image.
-fn mend(image: &mut [u8], text: &[u8]) {
+fn mend(output: Stdout, image: &mut [u8], text: &[u8]) -> Result<()> {
     let a = line::number(text, line::word_end(text, 0));
     if line::byte_at(text, 0) == b's' {
-        answers::salvage(image, a.value);
+        answers::salvage(output, image, a.value)?;
     }
+    Ok(())
 }
 
 // Runs it on the image's first bytes, as many as it has.
-fn mend_part(image: &mut [u8], length: usize, text: &[u8]) {
+fn mend_part(output: Stdout, image: &mut [u8], length: usize, text: &[u8]) -> Result<()> {
     if length <= image.len() {
-        mend(&mut image[0..length], text);
+        mend(output, &mut image[0..length], text)?;
     }
+    Ok(())
 }
 
-fn mend_first(image: &mut Image, length: usize, text: &[u8]) {
-    mend_part(image, length, text);
+fn mend_first(output: Stdout, image: &mut Image, length: usize, text: &[u8]) -> Result<()> {
+    mend_part(output, image, length, text)
 }
 
 // Runs one line, and gives the image's length after it.
-fn command(image: &mut Image, length: usize, text: &[u8]) -> usize {
+fn command(output: Stdout, image: &mut Image, length: usize, text: &[u8]) -> Result<usize> {
     let after = store(image, length, text);
-    ask_first(image, after, text);
-    mend_first(image, after, text);
-    after
+    ask_first(output, image, after, text)?;
+    mend_first(output, image, after, text)?;
+    Ok(after)
 }
 
 // Runs the lines of a text.
-fn run(image: &mut Image, text: &[u8]) {
+fn run(output: Stdout, image: &mut Image, text: &[u8]) -> Result<()> {
     let mut length: usize = 0;
     let mut at: usize = 0;
     while at < text.len() {
         let end = line::line_end(text, at);
-        length = command(image, length, &text[at..end]);
+        length = command(output, image, length, &text[at..end])?;
         at = end + 1;
     }
+    Ok(())
 }
 
 fn blank() -> Image {
     [0; 1638401]
 }
 
-fn main() {
+fn main(rt: HostRuntime) -> Result<()> {
     let mut image = blank();
-    let mut text = io::large_buffer();
-    let count = io::read_full(STDIN_FILENO, &mut text);
-    run(&mut image, &text[..count]);
+    let mut text = [0u8; 65536];
+    let count = listing::read_full(&mut rt.stdin(), &mut text)?;
+    run(rt.stdout(), &mut image, &text[..count])
 }

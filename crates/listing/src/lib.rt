@@ -3,7 +3,8 @@
 // The functions that put a part of it say which text they put, and where the next one goes; outside, only `cases` calls them.
 #![tactic(auto)]
 
-ghost use Rattle.std.specs.Prelude.{◌≡◌, ◌++◌, ◌+◌, ◌≤◌, ◌<◌, length};
+ghost use Rattle.std.specs.Prelude.{◌≡◌, ◌++◌, ◌+◌, ◌≤◌, ◌<◌, length, IfOk};
+ghost use Rattle.io.specs.Counts.{IsPrefixLen};
 ghost use Rattle.laws.specs.Reader.{bytes};
 ghost use Rattle.layout.specs.Layouts.{slot_offset};
 ghost use Rattle.layout.specs.Right.{LayoutRight};
@@ -13,31 +14,47 @@ ghost use Rattle.listing.specs.Listing.{decimal, density_word, refused_text, che
 ghost use Rattle.listing.specs.Lines.{slot_answer, lines_of};
 ghost use Rattle.listing.specs.Puts.{Puts, Fills};
 
-use libc::{STDIN_FILENO, STDOUT_FILENO};
+use std::io::{Print, Read, Result};
+use std::rt::{Stdin, Stdout};
+
+// Reads until the buffer is full or the input ends, and says how many bytes came.
+pub fn read_full(input: &mut Stdin, buffer: &mut [u8]) -> Result<usize>
+    ensures { IfOk result (λ count. IsPrefixLen count buffer.new) }
+{
+    let mut done = 0;
+    while done < buffer.len() {
+        let more = input.read(&mut buffer[done..])?;
+        if more == 0 {
+            break;
+        }
+        done += more;
+    }
+    Ok(done)
+}
 
 // Reads up to 65,536 bytes more, and says how many came.
-fn skip_some() -> usize
-    ensures { result ≤ 65536 }
+fn skip_some(input: &mut Stdin) -> Result<usize>
+    ensures { IfOk result (λ count. count ≤ 65536) }
 {
-    let mut space = io::large_buffer();
-    io::read_full(STDIN_FILENO, &mut space)
+    let mut space = [0u8; 65536];
+    read_full(input, &mut space)
 }
 
 // How many bytes are left on standard input, as far as 64 turns count: that is more than any image has.
-fn count_rest() -> usize
-    ensures { result ≤ 4194304 }
+fn count_rest(input: &mut Stdin) -> Result<usize>
+    ensures { IfOk result (λ count. count ≤ 4194304) }
 {
     let mut total: usize = 0;
     let mut turns: usize = 64;
     while turns > 0 {
         turns -= 1;
-        let more = skip_some();
+        let more = skip_some(input)?;
         if more == 0 {
             break;
         }
         total += more;
     }
-    total
+    Ok(total)
 }
 
 // Puts a word into the output from an index on, as far as there is room, and gives the index past it.
@@ -201,12 +218,12 @@ pub fn lines(head: &[u8], length: usize, out: &mut [u8; 24576]) -> usize
     put(b"\n", out, next)
 }
 
-// Lists the image on standard input: of its bytes the first 17,408 are kept, the rest is counted.
-pub fn run() {
+// Lists the image on standard input: of its bytes the first 17,408 are kept, the rest is counted. A read or write that fails is an error.
+pub fn run(mut input: Stdin, output: Stdout) -> Result<()> {
     let mut head = [0u8; 17408];
-    let kept = io::read_full(STDIN_FILENO, &mut head);
-    let rest = count_rest();
+    let kept = read_full(&mut input, &mut head)?;
+    let rest = count_rest(&mut input)?;
     let mut out = [0u8; 24576];
     let count = lines(&head[0..kept], kept + rest, &mut out);
-    io::write_all(STDOUT_FILENO, &out[0..count]);
+    output.write_all(&out[0..count])
 }

@@ -99,7 +99,7 @@ fn salvages_were_met(tally: &Tally) {
 #[test]
 fn costs_agree() {
     let program = Path::new(env!("CARGO_MANIFEST_DIR")).join("../../target/bin/cases");
-    assert!(program.exists(), "{} isn't built; rt check cases builds it", program.display());
+    assert!(program.exists(), "{} isn't built; make target/bin/cases builds it", program.display());
     let mut pages = Pages::default();
     for seed in 0..200 {
         costs::run(&program, seed, &mut pages).unwrap_or_else(|apart| panic!("{apart}"));

@@ -1,0 +1,23 @@
+-- `calls::page` meets its contract: a refused image answers the check's refusal, an accepted one what the record says.
+-- The check's answer is taken apart, and the layout is that of its kind and density. Assumes nothing.
+use Rattle.std.proofs.Common.{◌∙◌}
+use Rattle.calls.specs.Answers.{page_call}
+use Rattle.calls.specs.Lemmas.Answers.{call_refused}
+use Rattle.calls.specs.Lemmas.Done.{done-right, done-rules, page-done}
+use Rattle.calls.proofs.page.Goals as goal
+
+pub returns-in_default : goal.returns-in_default
+returns-in_default c =
+    let a = c.args in
+    call_refused a.image.now (page_call a.slot a.offset a.out.now) c.check-checked.ensures c.in_default.is c.refusal_of.ensures
+
+pub page_slot-metered-requires : goal.page_slot-metered-requires
+page_slot-metered-requires c =
+    let img = c.args.image.now in
+    let yes = c.in-Accepted.is in
+    (done-right img c.check-checked.ensures yes c.layout_of-layout.ensures, done-rules img c.check-checked.ensures yes c.layout_of-layout.ensures)
+
+pub returns : goal.returns
+returns c =
+    let a = c.args in
+    c.page_slot-metered.ensures.image_after ∙ page-done a.image.now c.check-checked.ensures c.in-Accepted.is c.layout_of-layout.ensures a.slot a.offset _

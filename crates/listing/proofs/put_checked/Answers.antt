@@ -1,0 +1,14 @@
+-- `listing::put_checked` meets its contract: an accepted image's answer has four parts, a refused one's is the refusal's.
+-- By joining what the calls put. Assumes nothing.
+use Rattle.std.proofs.Common.{arith}
+use Rattle.listing.specs.Lemmas.Puts.{puts_near, puts_then}
+use Rattle.listing.proofs.put_checked.Goals as goal
+
+pub returns-in-Accepted : goal.returns-in-Accepted
+returns-in-Accepted c =
+    let kind = rw c.kind_number.ensures at c.put_number-next.ensures in
+    rw c.in-Accepted.is
+    (puts_then (puts_then (puts_then kind c.put_density-next.ensures) c.put_number-next-in-Accepted.ensures) c.put_number.ensures)
+
+pub returns-in-Refused : goal.returns-in-Refused
+returns-in-Refused c = rw c.in-Refused.is (puts_near c.put_refused.ensures 79 (omega arith))

@@ -1,0 +1,48 @@
+-- `locate::slot_blocks` meets its contract: 10 for a slot without a file, 21 for a short output, else the blocks of its chain.
+-- A used slot of an accepted image has a faultless chain, which is collected and copied. Assumes nothing.
+use Rattle.std.proofs.Common.{sym, ◌∙◌, arith}
+use Rattle.std.proofs.lemmas.Bool.{not-false}
+use Rattle.calls.specs.Lemmas.Paging.{size_some, slot_chained}
+use Rattle.changes.specs.Lemmas.Lent.{count_fits, lent-all}
+use Rattle.locate.specs.Lemmas.Locate.{blocks_above, blocks_empty, blocks_short, blocks_all}
+use borrow.Author.Tests.{not-true}
+use Rattle.locate.proofs.slot_blocks.Goals as goal
+
+pub returns-then-slots-slot : goal.returns-then-slots-slot
+returns-then-slots-slot c =
+    let a = c.args in
+    blocks_above a.layout a.image.now a.slot a.out.now c.if-slots-slot.true
+
+pub returns-then-not-is_used : goal.returns-then-not-is_used
+returns-then-not-is_used c =
+    let a = c.args in
+    blocks_empty a.layout a.image.now a.slot a.out.now (omega arith) (sym c.is_used.ensures ∙ c.if-not-is_used.true)
+
+pub overflow_sub-size : goal.overflow_sub-size
+overflow_sub-size c =
+    let here = sym c.is_used.ensures ∙ c.if-not-is_used.false in
+    omega (arith, size_some c.args.layout c.requires.0 c.args.image.now c.requires.1 c.args.slot (omega arith) here c.size_of-size.ensures)
+
+pub chain_blocks-chain-requires : goal.chain_blocks-chain-requires
+chain_blocks-chain-requires c =
+    let here = sym c.is_used.ensures ∙ c.if-not-is_used.false in (
+      omega (arith, c.requires.0.map-low, c.requires.0.data_some, c.requires.1.size),
+      c.requires.0,
+      slot_chained c.args.layout c.requires.0 c.args.image.now c.requires.1 c.args.slot (omega arith) here c.size_of-size.ensures c.start_of-start.ensures,
+    )
+
+pub returns-then-out-count : goal.returns-then-out-count
+returns-then-out-count c =
+    let a = c.args in
+    let here = sym c.is_used.ensures ∙ c.if-not-is_used.false in
+    blocks_short a.layout a.image.now a.slot (omega arith) here c.size_of-size.ensures c.start_of-start.ensures c.chain_blocks-chain.result c.chain_blocks-chain.ensures a.out.now c.if-out-count.true
+
+pub slice_bounds-copy_blocks-end : goal.slice_bounds-copy_blocks-end
+slice_bounds-copy_blocks-end c = count_fits _ c.chain_blocks-chain.result c.chain_blocks-chain.ensures
+
+pub returns : goal.returns
+returns c =
+    let a = c.args in
+    let here = sym c.is_used.ensures ∙ c.if-not-is_used.false in
+    blocks_all a.layout a.image.now a.slot (omega arith) here c.size_of-size.ensures c.start_of-start.ensures c.chain_blocks-chain.result c.chain_blocks-chain.ensures a.out.now (omega arith)
+    (lent-all _ c.chain_blocks-chain.result c.chain_blocks-chain.ensures) c.copy_blocks.ensures

@@ -1,0 +1,9 @@
+-- `session::refused_reply` meets its contract: the refusal's number and place as a reply.
+-- By `nameless`. Assumes nothing.
+use Rattle.std.proofs.Common.{refl}
+use Rattle.record.specs.Record.{refused_by}
+use Rattle.session.specs.Lemmas.Entries.{nameless}
+use Rattle.session.proofs.refused_reply.Goals as goal
+
+pub returns : goal.returns
+returns c = nameless (refused_by c.args.refusal) refl
