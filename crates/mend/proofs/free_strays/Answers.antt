@@ -21,8 +21,8 @@ overflow_add-changed c =
 
 pub loop-block-preserved : goal.loop-block-preserved
 loop-block-preserved c =
-    let turned : (let k = c.loop-block in let a = c.args in Setting (is_lost (map_at (bytes a.image.now)) a.marks.now) 0 a.image.now c.free_value-changed.new.image a.layout.first (k.block + 1) a.layout.blocks (k.changed + c.free_value-changed.result)) = let k = c.loop-block in let w = c.free_value-changed.ensures in let same = k.invariant.2.ahead k.block (omega arith) in setting_turn _ _ _ _ _ _ _ _ k.invariant.2 c.loop-block-test.true (rw same at w.image_after) (rw same at w.value) in
-    (omega arith, omega arith, turned)
+    let again : (let k = c.loop-block in let a = c.args in Setting (is_lost (map_at (bytes a.image.now)) a.marks.now) 0 a.image.now c.free_value-changed.new.image a.layout.first (k.block + 1) a.layout.blocks (k.changed + c.free_value-changed.result)) = let k = c.loop-block in let w = c.free_value-changed.ensures in let same = k.invariant.2.ahead k.block (omega arith) in setting_turn _ _ _ _ _ _ _ _ k.invariant.2 c.loop-block-test.true (rw same at w.image_after) (rw same at w.value) in
+    (omega arith, omega arith, again)
 
 pub overflow_cast-result : goal.overflow_cast-result
 overflow_cast-result c = omega (arith, c.requires.0.blocks_most, setting_few _ _ _ _ _ c.loop-block.invariant.2)

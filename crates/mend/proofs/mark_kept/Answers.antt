@@ -12,17 +12,14 @@ returns-then-verdict-ne1 c =
 pub overflow_add-count : goal.overflow_add-count
 overflow_add-count c =
     let p = c.requires in
-    let is = c.if-verdict-ne1.false in
-    omega (arith, (kept_listed _ _ _ (sym p.3 ∙ is) p.0 c.links_of-count.ensures is p.4).0)
+    omega (arith, (kept_listed _ _ _ (sym p.3 ∙ c.if-verdict-ne1.false) p.0 c.links_of-count.ensures c.if-verdict-ne1.false p.4).0)
 
 pub mark_blocks-requires : goal.mark_blocks-requires
 mark_blocks-requires c =
     let p = c.requires in
-    let is = c.if-verdict-ne1.false in
-    kept_listed _ _ _ (sym p.3 ∙ is) p.0 c.links_of-count.ensures is p.4
+    kept_listed _ _ _ (sym p.3 ∙ c.if-verdict-ne1.false) p.0 c.links_of-count.ensures c.if-verdict-ne1.false p.4
 
 pub returns : goal.returns
 returns c =
     let p = c.requires in
-    let is = c.if-verdict-ne1.false in
-    kept_marks _ _ _ (sym p.3 ∙ is) p.0 c.links_of-count.ensures is p.4 _ p.5 c.mark_blocks.ensures
+    kept_marks _ _ _ (sym p.3 ∙ c.if-verdict-ne1.false) p.0 c.links_of-count.ensures c.if-verdict-ne1.false p.4 _ p.5 c.mark_blocks.ensures

@@ -22,8 +22,8 @@ overflow_add-changed c =
 
 pub loop-block-preserved : goal.loop-block-preserved
 loop-block-preserved c =
-    let turned : (let k = c.loop-block in let a = c.args in Setting (λ b. not (eqb (map_at (bytes a.image.now) b) a.layout.reserved)) a.layout.reserved a.image.now c.set_value-changed.new.image 0 (k.block + 1) a.layout.system (k.changed + c.set_value-changed.result)) = let k = c.loop-block in let w = c.set_value-changed.ensures in let same = k.invariant.1.ahead k.block (omega arith) in setting_turn _ _ _ _ _ _ _ _ k.invariant.1 c.loop-block-test.true (rw same at w.image_after) (rw same at w.value) in
-    (omega arith, turned)
+    let again : (let k = c.loop-block in let a = c.args in Setting (λ b. not (eqb (map_at (bytes a.image.now) b) a.layout.reserved)) a.layout.reserved a.image.now c.set_value-changed.new.image 0 (k.block + 1) a.layout.system (k.changed + c.set_value-changed.result)) = let k = c.loop-block in let w = c.set_value-changed.ensures in let same = k.invariant.1.ahead k.block (omega arith) in setting_turn _ _ _ _ _ _ _ _ k.invariant.1 c.loop-block-test.true (rw same at w.image_after) (rw same at w.value) in
+    (omega arith, again)
 
 pub returns : goal.returns
 unfolding wrong_system bad_system
