@@ -7,7 +7,6 @@ use Rattle.record.specs.declared.Judged.TheVariants.{Refuse, Grant}
 use Rattle.laws.specs.declared.Refusal.{Refusal}
 use Rattle.laws.specs.declared.Counted.{Counted}
 use Rattle.laws.specs.declared.Counted.TheVariants as counted
-use Rattle.rules.specs.declared.Checked.TheVariants.{Refused}
 use Rattle.rules.specs.Check.{came}
 use Rattle.pages.specs.Cost.{no_cost}
 use Rattle.calls.specs.declared.Found.{Found}

@@ -8,7 +8,7 @@ use Rattle.record.specs.Step.{step_image}
 use Rattle.rules.specs.declared.Checked.{Checked}
 use Rattle.rules.specs.declared.Checked.TheVariants.{Accepted, Refused}
 use Rattle.rules.specs.Check.{came, check_of, refusal_of, answer_of, call_of, Made}
-use Rattle.rules.specs.Demand.{check_call}
+use Rattle.rules.proofs.Demand.{check_call}
 use Rattle.calls.specs.declared.Found.{Found}
 use Rattle.calls.specs.declared.Paged.{Paged}
 use Rattle.calls.specs.declared.Listed.{Listed}

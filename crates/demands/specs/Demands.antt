@@ -36,13 +36,14 @@ use Rattle.layout.specs.declared.Density.TheVariants.{Low, High}
 use Rattle.layout.specs.declared.Layout.{Layout}
 use Rattle.layout.specs.Layouts.{layout_of, length_of, data_blocks, slot_offset, map_offset, block_offset}
 use Rattle.layout.specs.Right as right
-use Rattle.layout.specs.Right.{layout_right}
+use Rattle.layout.proofs.Right.{layout_right}
 use Rattle.blocks.specs.Blocks.{blocks_for}
 use Rattle.names.specs.declared.Converted.TheVariants.{Byte}
 use Rattle.names.specs.Akaii.{akaii_of, ascii_of, capital}
 use Rattle.names.specs.Akaii as akaii
 use Rattle.names.specs.Names.{to_disk, padding, legal_name, legal_type, legal_area, area_of, name_of, capitals}
 use Rattle.names.specs.NameLaws as names
+use Rattle.names.proofs.NameLaws as names_proved
 use Rattle.map.specs.Map.{map_at, free_count, Data, chain, Astray, Miscounted}
 use Rattle.map.specs.Values as values
 use Rattle.map.specs.Values.{Other, Reaches}
@@ -52,9 +53,10 @@ use Rattle.view.specs.Broken.{Breaks, legal, owner}
 use Rattle.image.specs.Image.{view_of, files_in, InUse, OfKind, DiskRules, erased, remove_image, new_entry}
 use Rattle.image.specs.Outside.{Within, InEntry, InMap}
 use Rattle.salvage.specs.Salvage.{drops, disk_after, report_of, survivors, salvage_image, map_changes, report_after}
-use Rattle.salvage.specs.Said as said
+use Rattle.salvage.proofs.Said as said
 use Rattle.salvage.specs.Said.{Said, KeptBelow}
 use Rattle.salvage.specs.Theorems as salvages
+use Rattle.salvage.proofs.Theorems as salvages_proved
 use Rattle.salvage.specs.Theorems.{SalvageTouches}
 use Rattle.record.specs.Record.{Shape, Files, Call, check, list, find, page, put, remove, salvage, refused, refused_by, valued, paged, done, Turn, kept_file, file_count, slot_of, empty_slot, free, file_at, refuse, is_legal, judge_name, judge_put, kept_report, salvaging, step_files}
 use Rattle.record.specs.Order.{room_for}
@@ -63,32 +65,34 @@ use Rattle.record.specs.Sixteen.{judge_without, room_without}
 use Rattle.record.specs.Sixteen as sixteen
 use Rattle.record.specs.Spelling.{in_capitals}
 use Rattle.record.specs.Types.{Holds, Apart}
-use Rattle.record.specs.Types as known
+use Rattle.record.proofs.Types as known
 use Rattle.rules.specs.declared.Checked.TheVariants.{Accepted, Refused}
 use Rattle.rules.specs.declared.Known.TheVariants.{Disk, Unknown}
 use Rattle.rules.specs.Check.{known_of, check_of, lent, came, salvage_of, call_of, Made}
-use Rattle.rules.specs.Accepted as accepted
+use Rattle.rules.proofs.Accepted as accepted
 use Rattle.rules.specs.Accepted.{accepted_as}
-use Rattle.rules.specs.Exactly as exactly
+use Rattle.rules.proofs.Exactly as exactly
 use Rattle.rules.specs.Exactly.{Owed}
-use Rattle.rules.specs.Head as head
+use Rattle.rules.proofs.Head as head
 use Rattle.rules.specs.Head.{Read}
 use Rattle.rules.specs.Lemmas.Steps as steps
 use Rattle.rules.specs.Salvage as salvaged
-use Rattle.rules.specs.Refused as refusals
-use Rattle.rules.specs.Small as small
+use Rattle.rules.proofs.Salvage as salvaged_proved
+use Rattle.rules.proofs.Refused as refusals
+use Rattle.rules.proofs.Small as small
 use Rattle.rules.specs.Small.{Numbered}
-use Rattle.rules.specs.Demand as demand
+use Rattle.rules.proofs.Demand as demand
 use Rattle.rules.specs.Demand.{Ran, Behaves}
-use Rattle.rules.specs.Outside as outside
+use Rattle.rules.proofs.Outside as outside
 use Rattle.rules.specs.Outside.{TouchedBy}
-use Rattle.rules.specs.Mark as mark
+use Rattle.rules.proofs.Mark as mark
 use Rattle.rules.specs.Mark.{last_block}
-use Rattle.rules.specs.Spelling as spelling
+use Rattle.rules.proofs.Spelling as spelling
 use Rattle.rules.specs.Second as second
-use Rattle.rules.specs.Types as types
+use Rattle.rules.proofs.Second as second_proved
+use Rattle.rules.proofs.Types as types
 use Rattle.rules.specs.Types.{FoundApart}
-use Rattle.rules.specs.Unread as unread
+use Rattle.rules.proofs.Unread as unread
 use Rattle.rules.specs.Unread.{SameButFirst, Unseen}
 use Rattle.pages.specs.Cost as cost
 use Rattle.pages.specs.Cost.{holds, blocks_holding, no_cost, cost_of}
@@ -102,9 +106,10 @@ use Rattle.samples.specs.declared.Sampler.{Sampler}
 use Rattle.samples.specs.Samples.{count_in, header_of, file_size, room_fault, unpack_of, pack_of, Bytes}
 use Rattle.samples.specs.Rules.{SampleRules}
 use Rattle.samples.specs.Calls as codecs
+use Rattle.samples.proofs.Calls as codecs_proved
 use Rattle.samples.specs.Calls.{Words, PackRules}
 use Rattle.program.specs.Program.{program_of, Sized, ProgramRules, Fails}
-use Rattle.program.specs.Accepted as programs
+use Rattle.program.proofs.Accepted as programs
 use Rattle.listing.specs.Listing.{listing_of}
 use Rattle.listing.specs.Lines.{lines_of}
 use Rattle.listing.specs.Lines as listings
@@ -198,7 +203,7 @@ page-bytes = demand.page-bytes
 -- Unpacking and packing follow the published layouts: accepted exactly by their rules.
 pub unpack_exactly : (sampler : Sampler) (file : List ℕ) (words : List ℤ)
     → ((unpack_of sampler file words).answer ≡ Done (count_in sampler (header_of sampler file))) ↔ (SampleRules sampler file × (count_in sampler (header_of sampler file) ≤ length words))
-unpack_exactly = codecs.unpack_accepted
+unpack_exactly = codecs_proved.unpack_accepted
 
 pub pack_exactly : (sampler : Sampler) (header : List ℕ) (words : List ℤ) (out : List ℕ) → Words words
     → ((pack_of sampler header words out).answer ≡ Done (file_size sampler (length words))) ↔ PackRules sampler header words out
@@ -215,7 +220,7 @@ packed_unpacks = codecs.unpack_packed
 
 pub unpacked_packs : (sampler : Sampler) (file : List ℕ) (words : List ℤ) (count : ℕ) → Bytes file → (unpack_of sampler file words).answer ≡ Done count → (out : List ℕ)
     → pack_of sampler (header_of sampler file) (take count (unpack_of sampler file words).output) out ≡ unless 21 (room_fault (length out) (length file)) out (filled (Done (length file)) (splice out 0 file))
-unpacked_packs = codecs.pack_unpacked
+unpacked_packs = codecs_proved.pack_unpacked
 
 -- Programs: accepted with n keygroups exactly by their rules, else refused at the lowest failing offset.
 pub program_exactly : (file : List ℕ) (n : ℕ) → (program_of file ≡ Done n) ↔ ProgramRules file n
@@ -335,14 +340,14 @@ pub s900_own_case : (d : Density) (name : List ℕ) → capitals (layout_of S900
 s900_own_case d = names.capitals_own (layout_of S900 d) refl
 
 pub capitals_once : (k : Kind) (d : Density) (name : List ℕ) → capitals (layout_of k d) (capitals (layout_of k d) name) ≡ capitals (layout_of k d) name
-capitals_once k d = names.capitals_twice (layout_of k d)
+capitals_once k d = names_proved.capitals_twice (layout_of k d)
 
 pub capitals-legal : (k : Kind) (d : Density) (name : List ℕ) → legal_name (layout_of k d) (capitals (layout_of k d) name) ≡ legal_name (layout_of k d) name
-capitals-legal k d = names.capitals-legal (layout_of k d)
+capitals-legal k d = names_proved.capitals-legal (layout_of k d)
 
 -- There and back is the capitalised name.
 pub name_back : (k : Kind) (d : Density) (name : List ℕ) → legal_name (layout_of k d) name ≡ true → name_of (layout_of k d) (area_of (layout_of k d) name) ≡ capitals (layout_of k d) name
-name_back k d = names.name_back (layout_of k d) (layout_right k d)
+name_back k d = names_proved.name_back (layout_of k d) (layout_right k d)
 
 -- Two spellings that fold alike are one name: calls that differ in nothing else come to the same, in answer, output and image.
 pub one_name : (k : Kind) (d : Density) (f n : ℕ) (img : List ℕ) → check_of img ≡ Accepted k d f n → (c e : Call) → in_capitals (layout_of k d) c ≡ in_capitals (layout_of k d) e → call_of img c ≡ call_of img e
@@ -402,7 +407,7 @@ blocks_between = cost.blocks_between
 
 -- The call on any bytes: 1 and 2 as the check gives them, then 21, and nothing else is refused; else it is done.
 pub salvage_any : (img report : List ℕ) → call_of img (salvage report) ≡ salvage_of img report
-salvage_any = salvaged.salvage_call_is
+salvage_any = salvaged_proved.salvage_call_is
 
 pub known_exactly : (img : List ℕ) (k : Kind) (d : Density) → (known_of img ≡ Disk k d) ↔ ((length img ≡ length_of d) × OfKind (layout_of k d) (bytes img))
 known_exactly img k d = (accepted.known_is (length img) (bytes img) k d, λ p. accepted.is_known (length img) (bytes img) k d p.0 p.1)
@@ -413,7 +418,7 @@ unknown_refused img r = steps.head_unknown (bytes img) (length img)
 pub salvage_refuses : (img report : List ℕ) (r : Refusal)
     → ((salvage_of img report).answer.refusal ≡ some r)
     ↔ ((known_of img ≡ Unknown r) ⊎ ((k : Kind) × (d : Density) × (known_of img ≡ Disk k d) × (length report < (layout_of k d).slots) × (r ≡ refusal_at 21 0)))
-salvage_refuses = salvaged.salvage_refuses
+salvage_refuses = salvaged_proved.salvage_refuses
 
 pub salvage_done : (k : Kind) (d : Density) (img : List ℕ) → known_of img ≡ Disk k d → (report : List ℕ) → (layout_of k d).slots ≤ length report
     → let l = layout_of k d in salvage_of img report ≡ came (valued (map_changes l img (salvage_image l img))) (report_after l img report) (salvage_image l img)
@@ -421,7 +426,7 @@ salvage_done = salvaged.salvage_done
 
 -- The result is always accepted, as the kind and density that it was.
 pub salvage_accepted : (k : Kind) (d : Density) (img : List ℕ) → known_of img ≡ Disk k d → check_of (salvage_image (layout_of k d) img) ≡ accepted_as k d (salvage_image (layout_of k d) img)
-salvage_accepted = salvaged.salvage_accepted
+salvage_accepted = salvaged_proved.salvage_accepted
 
 -- The report: a byte for each slot, and those past the slots are kept.
 pub report_said : (k : Kind) (d : Density) (img report : List ℕ) (s : ℕ) → let l = layout_of k d in s < l.slots → get_or (report_after l img report) s 0 ≡ report_of l (view_of l (bytes img)) s
@@ -447,54 +452,54 @@ module _ (k : Kind) (d : Density) (img : List ℕ) (known : known_of img ≡ Dis
   -- A kept file is what its own chain says in the given map, in its slot; every other slot is empty. 1 is said exactly of what is kept.
   pub salvage_kept : (s : ℕ) → s < l.slots → report_of l given s ≡ 1
       → files_in l mended s ≡ some (record { name = name_of l (given.entry s).area; type = (given.entry s).type; content = content_of given (given.entry s) })
-  salvage_kept = salvages.salvage_kept l (layout_right k d) img (salvaged.known_size k d img known)
+  salvage_kept = salvages_proved.salvage_kept l (layout_right k d) img (salvaged_proved.known_size k d img known)
 
   pub salvage_gone : (s : ℕ) → s < l.slots → (report_of l given s ≡ 1 → ⊥) → files_in l mended s ≡ none
-  salvage_gone = salvages.salvage_gone l (layout_right k d) img (salvaged.known_size k d img known)
+  salvage_gone = salvages_proved.salvage_gone l (layout_right k d) img (salvaged_proved.known_size k d img known)
 
   pub kept_exactly : (s : ℕ) → s < l.slots → (report_of l given s ≡ 1) ↔ ((f : File) × (files_in l mended s ≡ some f))
-  kept_exactly = salvages.kept_exactly l (layout_right k d) img (salvaged.known_size k d img known)
+  kept_exactly = salvages_proved.kept_exactly l (layout_right k d) img (salvaged_proved.known_size k d img known)
 
   -- A dropped slot is as remove leaves it.
   pub salvage_erased : (s : ℕ) → s < l.slots → drops (report_of l given s) ≡ true → (view_of l (bytes mended)).entry s ≡ erased (given.entry s)
-  salvage_erased = salvages.salvage_erased l (layout_right k d) img (salvaged.known_size k d img known)
+  salvage_erased = salvages_proved.salvage_erased l (layout_right k d) img (salvaged_proved.known_size k d img known)
 
   -- System values are restored, kept chains' map values stay, those of every other data block are 0; S900 system values, which nobody reads, stay.
   pub salvage_system : (b : ℕ) → b < l.system → map_at (bytes mended) b ≡ l.reserved
-  salvage_system = salvages.salvage_system l (layout_right k d) img (salvaged.known_size k d img known)
+  salvage_system = salvages_proved.salvage_system l (layout_right k d) img (salvaged_proved.known_size k d img known)
 
   pub salvage_chained : (b : ℕ) → Data l b → In b (owned (survivors l given) l.slots) → map_at (bytes mended) b ≡ map_at (bytes img) b
-  salvage_chained = salvages.salvage_chained l (layout_right k d) img (salvaged.known_size k d img known)
+  salvage_chained = salvages_proved.salvage_chained l (layout_right k d) img (salvaged_proved.known_size k d img known)
 
   pub salvage_freed : (b : ℕ) → Data l b → (In b (owned (survivors l given) l.slots) → ⊥) → map_at (bytes mended) b ≡ 0
-  salvage_freed = salvages.salvage_freed l (layout_right k d) img (salvaged.known_size k d img known)
+  salvage_freed = salvages_proved.salvage_freed l (layout_right k d) img (salvaged_proved.known_size k d img known)
 
   pub salvage_unread : (b : ℕ) → l.system ≤ b → b < l.first → map_at (bytes mended) b ≡ map_at (bytes img) b
-  salvage_unread = salvages.salvage_unread l (layout_right k d) img (salvaged.known_size k d img known)
+  salvage_unread = salvages_proved.salvage_unread l (layout_right k d) img (salvaged_proved.known_size k d img known)
 
   -- No other byte changes: a byte that does lies in the first 22 of a dropped slot or in a map value, and none is a data byte.
   pub salvage_outside : (i : ℕ) → (SalvageTouches l img i → ⊥) → bytes mended i ≡ bytes img i
-  salvage_outside = salvages.salvage_outside l img
+  salvage_outside = salvages_proved.salvage_outside l img
 
   pub salvage_where : (i : ℕ) → SalvageTouches l img i → ((s : ℕ) × (s < l.slots) × (drops (report_of l given s) ≡ true) × InEntry l s i) ⊎ ((b : ℕ) × (b < l.blocks) × InMap b i)
-  salvage_where = salvages.touched_where l (layout_right k d) img
+  salvage_where = salvages_proved.touched_where l (layout_right k d) img
 
   pub salvage_data : (i : ℕ) → block_offset l.first ≤ i → bytes mended i ≡ bytes img i
-  salvage_data = salvages.salvage_data l (layout_right k d) img
+  salvage_data = salvages_proved.salvage_data l (layout_right k d) img
 
   -- The count: wrong system values, and data blocks on no kept chain that weren't free.
   pub salvage_count : map_changes l img mended ≡ count (bad_system l given) 0 l.system + count (stray l (survivors l given)) l.first (l.blocks - l.first)
-  salvage_count = salvages.salvage_count l (layout_right k d) img (salvaged.known_size k d img known)
+  salvage_count = salvages_proved.salvage_count l (layout_right k d) img (salvaged_proved.known_size k d img known)
 
   -- Run again it changes nothing: it says 1 of what was kept and 0 of all else, and counts 0.
   pub salvage_again : (report : List ℕ) → l.slots ≤ length report
       → salvage_of mended report ≡ came (valued 0) (tab (λ s. pick (eqb (report_of l given s) 1) 1 0) 0 l.slots ++ drop l.slots report) mended
-  salvage_again = salvaged.salvage_again k d img known
+  salvage_again = salvaged_proved.salvage_again k d img known
 
 -- An accepted image comes back untouched, with 0 and 1 in the report, and a count of 0.
 pub salvage_same : (k : Kind) (d : Density) (f n : ℕ) (img : List ℕ) → check_of img ≡ Accepted k d f n → (report : List ℕ) → (layout_of k d).slots ≤ length report
     → salvage_of img report ≡ came (valued 0) (kept_report (layout_of k d) (files_in (layout_of k d) img) report) img
-salvage_same = salvaged.salvage_same
+salvage_same = salvaged_proved.salvage_same
 
 -- So it stands among the calls of demand 3: by its report's length and the record's files alone, refused by 21 alone, and the files stay.
 pub salvage_record : (shape : Shape) (files : Files) (report : List ℕ) → step_files shape files (salvage report) ≡ salvaging files shape.layout files report
@@ -511,10 +516,10 @@ s3000_layout = refl
 
 -- It is known by its length and by 255 as slot 0's type in the first directory, whatever the identities; a low image with that 255 is refused by 2.
 pub s3000_known : (img : List ℕ) → (known_of img ≡ Disk S3000 High) ↔ ((length img ≡ 1638400) × (bytes img 16 ≡ 255))
-s3000_known = second.s3000_known
+s3000_known = second_proved.s3000_known
 
 pub passed_over-low : (img : List ℕ) → length img ≡ 819200 → bytes img 16 ≡ 255 → check_of img ≡ Refused (refusal_at 2 0)
-passed_over-low = second.passed_over-low
+passed_over-low = second_proved.passed_over-low
 
 -- No call reads the first directory but byte 16: disks that differ in nothing else get the same answers and outputs, and differ in nothing else afterwards.
 pub first_unread : (x y : List ℕ) → known_of x ≡ Disk S3000 High → SameButFirst x y → (c : Call) → Unseen (call_of x c) (call_of y c)
@@ -542,13 +547,13 @@ pub s3000_put : (f n : ℕ) (img : List ℕ) → check_of img ≡ Accepted S3000
     → let e = (view_of (layout_of S3000 High) (bytes (call_of img (put name type content)).state)).entry slot in
     (e.area ≡ map (to_disk (layout_of S3000 High)) name ++ (0 ∷ 0 ∷ 0 ∷ 2 ∷ [])) × (e.type ≡ type) × (e.size ≡ length content) × (e.identity ≡ 3072)
 unfolding new_entry area_of padding
-s3000_put f n img accept name type content slot a = rw (second.put_writes S3000 High f n img accept name type content slot a) (refl, refl, refl, refl)
+s3000_put f n img accept name type content slot a = rw (second_proved.put_writes S3000 High f n img accept name type content slot a) (refl, refl, refl, refl)
 
 -- Remove leaves 0,12.
 pub s3000_remove : (f n : ℕ) (img : List ℕ) → check_of img ≡ Accepted S3000 High f n → (slot : ℕ) (file : File) → files_in (layout_of S3000 High) img slot ≡ some file
     → (name : List ℕ) → capitals (layout_of S3000 High) name ≡ file.name
     → (view_of (layout_of S3000 High) (bytes (call_of img (remove name file.type)).state)).entry slot ≡ record { area = replicate 16 0; type = 0; size = 0; start = 0; identity = 3072 }
-s3000_remove = second.remove_leaves S3000 High
+s3000_remove = second_proved.remove_leaves S3000 High
 
 -- On S900 and S1000 disks no call changes an identity's bytes.
 pub identity_kept : (k : Kind) (d : Density) (f n : ℕ) (img : List ℕ) → check_of img ≡ Accepted k d f n → (layout_of k d).second ≡ false → ((j : ℕ) → bytes img j < 256)
@@ -562,7 +567,7 @@ unfolding file_at
 s3000_slots files slot above = rw (le-ltb slot 512 above) refl
 
 pub s3000_past : (f n : ℕ) (img : List ℕ) → check_of img ≡ Accepted S3000 High f n → (slot : ℕ) → 512 ≤ slot → (call_of img (list slot)).answer ≡ refused 10 0
-s3000_past f n img accept slot above = second.list_past S3000 High f n img accept slot above
+s3000_past f n img accept slot above = second_proved.list_past S3000 High f n img accept slot above
 
 pub s3000_report : (img report : List ℕ) → known_of img ≡ Disk S3000 High → length report < 512 → salvage_of img report ≡ came (refused 21 0) report img
 s3000_report img report known = salvaged.salvage_short S3000 High img known report

@@ -18,7 +18,8 @@ use Rattle.layout.specs.declared.Density.{Density}
 use Rattle.layout.specs.declared.Kind.{Kind}
 use Rattle.layout.specs.declared.Layout.{Layout}
 use Rattle.layout.specs.Layouts.{layout_of, head_length, slot_offset}
-use Rattle.layout.specs.Right.{LayoutRight, layout_right}
+use Rattle.layout.specs.Right.{LayoutRight}
+use Rattle.layout.proofs.Right.{layout_right}
 use Rattle.names.specs.Names.{name_of}
 use Rattle.names.specs.NameLaws.{length-name}
 use Rattle.view.specs.Disk.{used}
@@ -26,10 +27,11 @@ use Rattle.image.specs.Image.{entry_at, view_of, files_in}
 use Rattle.record.specs.Record.{Answer, Outcome, check, list, entry, refused, refused_by, file_at, listing}
 use Rattle.rules.specs.declared.Checked.{Checked}
 use Rattle.rules.specs.declared.Checked.TheVariants.{Accepted, Refused}
-use Rattle.rules.specs.Accepted.{accepted-rules}
+use Rattle.rules.proofs.Accepted.{accepted-rules}
 use Rattle.rules.specs.Check.{check_of, check_start, answer_of, call_of}
-use Rattle.rules.specs.Demand.{check_call}
-use Rattle.rules.specs.Head.{read_head, head_agree, same-entry, start_check}
+use Rattle.rules.proofs.Demand.{check_call}
+use Rattle.rules.specs.Head.{read_head, head_agree, same-entry}
+use Rattle.rules.proofs.Head.{start_check}
 use Rattle.disk.specs.Lemmas.Steps.{start_short, start_unknown, made_right, directory_held}
 use Rattle.calls.specs.Lemmas.Done.{list_done}
 use Rattle.calls.specs.Lemmas.Listing.{lent-area}

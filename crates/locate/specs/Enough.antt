@@ -18,7 +18,7 @@ use Rattle.laws.specs.Lemmas.Truth.{false_if}
 use Rattle.laws.specs.Lemmas.Scan.{lowest_cong}
 use Rattle.laws.specs.declared.Lowest.{Lowest}
 use Rattle.laws.specs.Splice.{part}
-use Rattle.laws.specs.Lemmas.Splice.{part-splice}
+use Rattle.laws.proofs.Lemmas.Splice.{part-splice}
 use Rattle.laws.specs.Reader.{bytes}
 use Rattle.layout.specs.declared.Kind.{Kind}
 use Rattle.layout.specs.declared.Kind.TheVariants.{S900, S1000, S3000}
@@ -26,7 +26,8 @@ use Rattle.layout.specs.declared.Density.{Density}
 use Rattle.layout.specs.declared.Density.TheVariants.{Low, High}
 use Rattle.layout.specs.declared.Layout.{Layout}
 use Rattle.layout.specs.Layouts.{layout_of, length_of, head_length, block_offset}
-use Rattle.layout.specs.Right.{LayoutRight, layout_right}
+use Rattle.layout.specs.Right.{LayoutRight}
+use Rattle.layout.proofs.Right.{layout_right}
 use Rattle.blocks.specs.Blocks.{links_for, block_at}
 use Rattle.blocks.specs.Lemmas.Blocks.{read_cong}
 use Rattle.map.specs.Map.{map_at}
@@ -40,8 +41,10 @@ use Rattle.record.specs.declared.Judged.TheVariants.{Grant}
 use Rattle.rules.specs.declared.Checked.{Checked}
 use Rattle.rules.specs.declared.Checked.TheVariants.{Accepted, Refused}
 use Rattle.rules.specs.Check.{check_of, refusal_of, lent, came, unaccepted, call_of}
-use Rattle.rules.specs.Accepted.{length_of_is, accepted-rules}
-use Rattle.rules.specs.Head.{Read, read_head, head_agree, check_reads, same_map, same-entry}
+use Rattle.rules.specs.Accepted.{length_of_is}
+use Rattle.rules.proofs.Accepted.{accepted-rules}
+use Rattle.rules.specs.Head.{Read, read_head, head_agree, same_map, same-entry}
+use Rattle.rules.proofs.Head.{check_reads}
 use Rattle.calls.specs.Answers.{found_of, found_by}
 use Rattle.calls.specs.Lemmas.Answers.{call_refused}
 use Rattle.calls.specs.Lemmas.Slots.{file_above, file_empty, file-used, file-length}

@@ -6,7 +6,8 @@ use Rattle.std.proofs.Math.Decide.{dec_lt}
 use Rattle.laws.specs.Truth.{within}
 use Rattle.laws.specs.Scan.{any, count}
 use Rattle.laws.specs.Lemmas.Truth.{clash, true_if, same_truth, both_true, within_in}
-use Rattle.laws.specs.Lemmas.Scan.{count_cong, count-within, some→, none→}
+use Rattle.laws.specs.Lemmas.Scan.{count_cong, count-within, none→}
+use Rattle.laws.proofs.Lemmas.Scan.{some→}
 use Rattle.pages.specs.declared.Cost.{Cost}
 
 -- Whether a block of a file holds one of the `size` bytes from an offset on.

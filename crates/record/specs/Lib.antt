@@ -2,7 +2,6 @@ pub mod Record
 pub mod Order
 pub mod Sixteen
 pub mod Step
-pub mod Others
 pub mod Outside
 pub mod Download
 pub mod Spelling

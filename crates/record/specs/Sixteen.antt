@@ -2,17 +2,16 @@
 -- 15 is asked first, and a content that three bytes of length can't tell needs 16,384 blocks; no data area has as many. Assumes nothing.
 use Rattle.std.specs.Prelude.{◌≡◌, refl, Bool, true, false, not, List, ◌↔◌, ltb, eqb, length}
 use Rattle.std.proofs.Math.Path.{ap, fun_ext}
-use Rattle.std.proofs.Common.{◌∙◌, arith, lt-ltb, le-ltb, ltb-false}
+use Rattle.std.proofs.Common.{arith, le-ltb, ltb-false}
 use Prim.Native.Nat.{ℕ, ◌≤◌, ◌<◌}
 use Rattle.std.proofs.Math.Decide.{dec_lt}
-use Rattle.laws.specs.declared.Lowest.TheVariants.{At, Nowhere}
 use Rattle.layout.specs.declared.Layout.{Layout}
 use Rattle.layout.specs.Layouts.{data_blocks}
 use Rattle.layout.specs.Right.{LayoutRight}
 use Rattle.blocks.specs.Blocks.{blocks_for}
 use Rattle.names.specs.Names.{legal_name, legal_type}
 use Rattle.record.specs.Record.{Files, refuse, refuse_if, refuse_at, or_refuse, is_legal, slot_of, empty_slot, free, judge_put}
-use Rattle.record.specs.Order.{room_for, order_room}
+use Rattle.record.specs.Order.{room_for}
 use Rattle.record.specs.declared.Judged.{Judged}
 use Rattle.record.specs.declared.Judged.TheVariants.{Grant}
 
@@ -59,7 +58,7 @@ module _ (l : Layout) (right : LayoutRight l) where
   long_needs_more size long = omega (arith, right.blocks_most)
 
   module _ (files : Files) where
-    free_few : free l files < 16384
+    pub free_few : free l files < 16384
     unfolding free
     free_few = omega (arith, right.blocks_most)
 
@@ -72,10 +71,3 @@ module _ (l : Layout) (right : LayoutRight l) where
     same_orders name type content =
         ap (λ (next : ℕ → Judged). refuse_if (not (is_legal l name type)) 11 (refuse_if (eqb (length content) 0) 13 (refuse_at 12 (slot_of l files name type) (or_refuse 14 (empty_slot l files) next))))
         (fun_ext (λ s. (alike_exactly (free l files)).1 free_few (length content) s))
-
-    -- So a put of one is refused for room, if by nothing before.
-    pub long_unroomed : (name : List ℕ) (type : ℕ) (content : List ℕ) → is_legal l name type ≡ true → slot_of l files name type ≡ Nowhere → {s : ℕ} → empty_slot l files ≡ At s
-        → 16777215 < length content → judge_put l files name type content ≡ refuse 15 0
-    long_unroomed name type content legal new slot long =
-        order_room l files name type content legal (λ e. omega arith) new slot
-        ∙ rw (lt-ltb (free l files) (blocks_for (length content)) (omega (arith, free_few))) refl

@@ -1,13 +1,13 @@
 -- What a table's fault says: it is the lowest place where a number breaks its row's rule, and there is none exactly where every row is kept.
 -- The rows of a table stand one after another, so that the first broken row gives less than any row after it could. Assumes nothing.
-use Rattle.std.specs.Prelude.{◌≡◌, Bool, true, false, not, ◌⊎◌, ◌↔◌, ℕ, ◌+◌, ◌*◌, ◌≤◌, ◌<◌, leb}
-use Rattle.std.proofs.Math.Path.{refl, ap}
+use Rattle.std.specs.Prelude.{◌≡◌, Bool, true, false, not, ◌⊎◌, ℕ, ◌+◌, ◌*◌, ◌≤◌, ◌<◌, leb}
+use Rattle.std.proofs.Math.Path.{refl}
 use Rattle.std.proofs.Common.{sym, ◌∙◌, true≢false, inl, inr, arith, leb-true}
 use mathlib.Core.List.{List, [], ◌∷◌}
 use Rattle.laws.specs.Truth.{pick, both}
 use Rattle.laws.specs.Lemmas.Truth.{both_true, clash}
 use Rattle.laws.specs.Scan.{lowest}
-use Rattle.laws.specs.Lemmas.Scan.{nowhere→, →nowhere, at→, lowest_least}
+use Rattle.laws.specs.Lemmas.Scan.{nowhere→, at→, lowest_least}
 use Rattle.laws.specs.declared.Lowest.{Lowest}
 use Rattle.laws.specs.declared.Lowest.TheVariants.{At, Nowhere}
 use Rattle.rows.specs.declared.Width.{Width}
@@ -116,13 +116,9 @@ module _ (header : List ℕ) (base : ℕ) (row : Row) where
   unfolding run_fault
   row_least place e = found place (lowest (breaks header base (run_of row)) 0 (run_of row).count) refl e
 
-  row→kept : row_fault header base row ≡ Nowhere → Kept header base row
+  pub row→kept : row_fault header base row ≡ Nowhere → Kept header base row
   unfolding run_fault
   row→kept e = clean (lowest (breaks header base (run_of row)) 0 (run_of row).count) refl e
-
-  kept→row : Kept header base row → row_fault header base row ≡ Nowhere
-  unfolding run_fault
-  kept→row k = ap (placed base (run_of row)) (→nowhere (breaks header base (run_of row)) 0 (run_of row).count (λ j p q. rw (k j (omega arith)) refl))
 
 -- ---- a table
 
@@ -186,19 +182,3 @@ module _ (header : List ℕ) (base : ℕ) where
   kept_nowhere [] k place f = f
   kept_nowhere (row ∷ rows) k place (inl b) = clash (k.0 b.index b.inside) b.broken
   kept_nowhere (row ∷ rows) k place (inr f) = kept_nowhere rows k.1 place f
-
-  no_fault : (rows : List Row) → rows_fault header base rows ≡ Nowhere → AllKept header base rows
-  unfolding rows_fault
-  no_fault [] e = tt
-  no_fault (row ∷ rows) e =
-      let d = none_of (row_fault header base row) (rows_fault header base rows) e in
-      (row→kept header base row d.0, no_fault rows d.1)
-
-  all_kept : (rows : List Row) → AllKept header base rows → rows_fault header base rows ≡ Nowhere
-  unfolding rows_fault
-  all_kept [] k = refl
-  all_kept (row ∷ rows) k = rw (kept→row header base row k.0) (all_kept rows k.1)
-
-  -- A table gives no place exactly where every row is kept.
-  pub faultless : (rows : List Row) → (rows_fault header base rows ≡ Nowhere) ↔ AllKept header base rows
-  faultless rows = (no_fault rows, all_kept rows)

@@ -4,11 +4,9 @@ pub mod Exactly
 pub mod Head
 pub mod Salvage
 pub mod Demand
-pub mod Refused
 pub mod Outside
 pub mod Unread
 pub mod Mark
-pub mod Spelling
 pub mod Second
 pub mod Types
 pub mod Small

@@ -6,7 +6,8 @@ use Rattle.laws.specs.Truth.{pick, both}
 use Rattle.laws.specs.Lemmas.Truth.{both_true}
 use Rattle.laws.specs.declared.Lowest.{Lowest}
 use Rattle.laws.specs.declared.Lowest.TheVariants.{At, Nowhere}
-use Rattle.rows.specs.Failing.{AllKept, faultless}
+use Rattle.rows.specs.Failing.{AllKept}
+use Rattle.rows.proofs.Failing.{faultless}
 use Rattle.headers.specs.Tables.{rows_of}
 use Rattle.samples.specs.declared.Sampler.{Sampler}
 use Rattle.samples.specs.Samples.{header_size, count_offset, table_of, is_whole, count_in, file_size, header_of, head_fault, file_fault, header_fault}

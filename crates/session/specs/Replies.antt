@@ -8,7 +8,8 @@ use Rattle.laws.specs.Reader.{bytes}
 use Rattle.blocks.specs.Numbers.{number, digits}
 use Rattle.record.specs.Record.{Call, number_in, place_or}
 use Rattle.rules.specs.Check.{call_of}
-use Rattle.rules.specs.Small.{Small, NumberedIn, call_small}
+use Rattle.rules.specs.Small.{Small, NumberedIn}
+use Rattle.rules.proofs.Small.{call_small}
 use Rattle.session.specs.Script.{reply_of, flag, reply_bytes}
 use Rattle.session.specs.declared.Reply.{Reply}
 

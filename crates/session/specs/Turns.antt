@@ -11,7 +11,8 @@ use Rattle.image.specs.Image.{files_in}
 use Rattle.record.specs.Record.{Call, Turn, Outcome}
 use Rattle.rules.specs.declared.Checked.TheVariants.{Accepted}
 use Rattle.rules.specs.Check.{came, check_of, call_of}
-use Rattle.rules.specs.Demand.{Ran, Behaves, demand_3}
+use Rattle.rules.specs.Demand.{Ran, Behaves}
+use Rattle.rules.proofs.Demand.{demand_3}
 use Rattle.session.specs.Script.{entry_call, shown_by, entered_by, after_run, Ended, run_from, run_of, entries}
 
 -- the call that the k-th entry is, with what it is lent of the output

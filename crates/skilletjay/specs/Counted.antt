@@ -2,11 +2,9 @@
 -- Each refusal keeps the output that was lent; only a call that is done writes to it. Assumes nothing.
 use Rattle.std.specs.Prelude.{◌≡◌, refl, Bool, true, false, List, [], ◌∷◌, ℕ, ◌+◌, ltb, ℤ, length}
 use Rattle.std.proofs.Common.{ap, ◌∙◌, arith}
-use Rattle.std.proofs.Math.Option.{some}
 use Rattle.laws.specs.Truth.{pick}
 use Rattle.laws.specs.declared.Lowest.{Lowest}
 use Rattle.laws.specs.declared.Lowest.TheVariants.{At, Nowhere}
-use Rattle.laws.specs.declared.Counted.TheVariants.{Refused}
 use Rattle.laws.specs.Refusals.{refusal_at, Filled, filled, Keeps}
 use Rattle.laws.specs.Lemmas.Refusals.{keeps-refused, keeps-done, keeps-unless}
 use Rattle.layout.specs.Layouts.{layout_of}
@@ -15,8 +13,8 @@ use Rattle.rules.specs.declared.Checked.{Checked}
 use Rattle.rules.specs.declared.Checked.TheVariants.{Accepted}
 use Rattle.rules.specs.declared.Checked.TheVariants as checks
 use Rattle.rules.specs.Check.{check_of, answer_of}
-use Rattle.rules.specs.Demand.{check_call}
-use Rattle.rules.specs.Small.{refusal_numbered}
+use Rattle.rules.proofs.Demand.{check_call}
+use Rattle.rules.proofs.Small.{refusal_numbered}
 use Rattle.locate.specs.Locate.{file_blocks, storing, blocks_by, blocks_of}
 use Rattle.samples.specs.declared.Sampler.{Sampler}
 use Rattle.samples.specs.Samples.{file_fault, header_fault, range_fault, room_fault, unpack_of, pack_of}

@@ -13,7 +13,7 @@ use Rattle.layout.specs.declared.Kind.{Kind}
 use Rattle.layout.specs.declared.Density.{Density}
 use Rattle.layout.specs.declared.Layout.{Layout}
 use Rattle.layout.specs.Layouts.{layout_of, slot_offset}
-use Rattle.layout.specs.Right.{layout_right}
+use Rattle.layout.proofs.Right.{layout_right}
 use Rattle.names.specs.NameLaws.{length-name}
 use Rattle.view.specs.Disk.{File, used}
 use Rattle.image.specs.Image.{entry_at, view_of, files_in}
@@ -24,10 +24,12 @@ use Rattle.record.specs.declared.Judged.{Judged}
 use Rattle.record.specs.declared.Judged.TheVariants.{Refuse, Grant}
 use Rattle.rules.specs.declared.Checked.TheVariants.{Accepted}
 use Rattle.rules.specs.Check.{check_of, call_of, Made}
-use Rattle.rules.specs.Accepted.{accepted-rules}
-use Rattle.rules.specs.Refused.{unchanged}
-use Rattle.rules.specs.Small.{Numbered, refusal_numbered}
-use Rattle.rules.specs.Demand.{call_is, Ran, Behaves, demand_3}
+use Rattle.rules.proofs.Accepted.{accepted-rules}
+use Rattle.rules.proofs.Refused.{unchanged}
+use Rattle.rules.specs.Small.{Numbered}
+use Rattle.rules.proofs.Small.{refusal_numbered}
+use Rattle.rules.specs.Demand.{Ran, Behaves}
+use Rattle.rules.proofs.Demand.{call_is, demand_3}
 use Rattle.calls.specs.Lemmas.Slots.{slot_file, file_above, file_empty, file-used}
 use Rattle.skilletjay.specs.Results.{checked_result, listed_result, found_result, paged_result, done_result, changed_result}
 use Rattle.skilletjay.specs.Told.{CTurn, checked, listed, found, paged, placed, removed, salvaged, told_of, refused_turn, refusal_in, checked_in, listed_in, found_in, paged_in, done_in, changed_in, turn_in, CRan, turns_in}

@@ -12,7 +12,7 @@ use Rattle.layout.specs.declared.Density.{Density}
 use Rattle.layout.specs.declared.Density.TheVariants.{Low, High}
 use Rattle.layout.specs.declared.Layout.{Layout}
 use Rattle.layout.specs.Layouts.{layout_of}
-use Rattle.layout.specs.Right.{layout_right}
+use Rattle.layout.proofs.Right.{layout_right}
 use Rattle.blocks.specs.Numbers.{number}
 use Rattle.map.specs.Map.{map_at}
 use Rattle.map.specs.Lemmas.Chains.{Linked}
@@ -20,14 +20,14 @@ use Rattle.view.specs.Disk.{files_of}
 use Rattle.image.specs.Image.{entry_at, view_of, files_in, DiskRules, chosen, put_image}
 use Rattle.record.specs.Record.{Shape, shape_of, Files, Call, list, find, page, put, remove, Answer, Outcome, refused, entry, valued, paged, done, judge_put, step_files}
 use Rattle.record.specs.declared.Judged.TheVariants.{Grant}
-use Rattle.record.specs.Lemmas.Update.{put_effect}
+use Rattle.record.proofs.Lemmas.Update.{put_effect}
 use Rattle.record.specs.Step.{step_image}
 use Rattle.rules.specs.declared.Checked.{Checked}
 use Rattle.laws.specs.Refusals.{refusal_at}
 use Rattle.rules.specs.declared.Checked.TheVariants.{Accepted, Refused}
 use Rattle.rules.specs.Check.{check_head, check_of, call_of}
-use Rattle.rules.specs.Accepted.{accepted-rules}
-use Rattle.rules.specs.Demand.{call_is, rules-after, files-after}
+use Rattle.rules.proofs.Accepted.{accepted-rules}
+use Rattle.rules.proofs.Demand.{call_is, rules-after, files-after}
 use Rattle.words.specs.Words.{packed900}
 use Rattle.table.specs.Sparse.{Sparse, zeros, byte, inside, list_of, reads, list_reads, sparse_check, value, identity, typed, blank, file}
 

@@ -3,6 +3,5 @@ pub mod Formed
 pub mod Namesakes
 pub mod Kept
 pub mod Counting
-pub mod Head
 pub mod Remove
 pub mod Put

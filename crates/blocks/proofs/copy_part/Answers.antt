@@ -1,7 +1,7 @@
 -- `blocks::copy_part` meets its contract: the copied run is a splice of the target.
 -- The part that was lent comes back as what `copy_run` made of it, by `copy_back`. Assumes nothing.
 use Rattle.std.proofs.Common.{arith}
-use Rattle.laws.specs.Lemmas.Splice.{copy_back}
+use Rattle.laws.proofs.Lemmas.Splice.{copy_back}
 use Rattle.blocks.proofs.copy_part.Goals as goal
 
 pub returns : goal.returns

@@ -1,8 +1,6 @@
 -- `calls::is_legal` meets its contract: an illegal name decides alone, past it the type does.
 -- By the test of the name. Assumes nothing.
 use Rattle.std.proofs.Common.{refl, sym, ◌∙◌}
-use Rattle.std.proofs.lemmas.Bool.{not-false}
-use borrow.Author.Tests.{not-true}
 use Rattle.calls.proofs.is_legal.Goals as goal
 
 pub returns-then-not-is_name : goal.returns-then-not-is_name

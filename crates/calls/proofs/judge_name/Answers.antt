@@ -1,10 +1,8 @@
 -- `calls::judge_name` meets its contract: an illegal name or type is refused by 11, a name and a type that no slot has by 10, else their slot is granted.
 -- By the test of name and type and the slot found. Assumes nothing.
 use Rattle.std.proofs.Common.{◌≡◌, sym, ◌∙◌, true}
-use Rattle.std.proofs.lemmas.Bool.{not-false}
 use Rattle.calls.specs.Lemmas.Finding.{judge_illegal, judge_found, judge_none}
 use Rattle.record.specs.Record.{is_legal}
-use borrow.Author.Tests.{not-true}
 use Rattle.calls.proofs.judge_name.Goals as goal
 
 pub returns-then-not-is_legal : goal.returns-then-not-is_legal

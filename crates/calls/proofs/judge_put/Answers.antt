@@ -1,10 +1,8 @@
 -- `calls::judge_put` meets its contract: 11, 13, 12, 14, 15 and 16 in this order, else the lowest empty slot.
 -- Each test decides the cascade's next step, whatever the content of that length is. Assumes nothing.
 use Rattle.std.proofs.Common.{◌≡◌, sym, ◌∙◌, true}
-use Rattle.std.proofs.lemmas.Bool.{not-false}
 use Rattle.calls.specs.Lemmas.Putting.{put_illegal, put_empty, put_taken, put_full, put_room}
 use Rattle.record.specs.Record.{is_legal}
-use borrow.Author.Tests.{not-true}
 use Rattle.calls.proofs.judge_put.Goals as goal
 
 pub returns-then-not-is_legal : goal.returns-then-not-is_legal

@@ -1,12 +1,10 @@
 -- `calls::list_slot` meets its contract: a slot without a file is refused by 10, a used one shows its entry and its name.
 -- From what the slot's readers and the name's reader ensure. Assumes nothing.
 use Rattle.std.proofs.Common.{sym, ap, ◌∙◌, List, ℕ, arith}
-use Rattle.std.proofs.lemmas.Bool.{not-false}
 use Rattle.calls.specs.Lemmas.Listing.{lists_none, lists_file, area-lent}
 use Rattle.calls.specs.Lemmas.Slots.{file_above, file_empty}
 use Rattle.laws.specs.Padded.{padded}
 use Rattle.names.specs.Names.{name_of}
-use borrow.Author.Tests.{not-true}
 use Rattle.calls.proofs.list_slot.Goals as goal
 
 pub returns-then-slot-slots : goal.returns-then-slot-slots

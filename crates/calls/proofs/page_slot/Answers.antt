@@ -1,14 +1,12 @@
 -- `calls::page_slot` meets its contract: a slot without a file is refused by 10, an offset above the length by 17, else page and cost are the record's.
 -- The bytes copied are the chain's, of which the file's content is the front, and the chain has as many blocks as the file. Assumes nothing.
 use Rattle.std.proofs.Common.{◌≡◌, refl, sym, ap, ◌∙◌, true, arith}
-use Rattle.std.proofs.lemmas.Bool.{not-false}
 use Rattle.calls.specs.Lemmas.Paging.{meters_none, meters_above, meters_file, size_some, content-size, slot_chained, page-bytes}
 use Rattle.calls.specs.Lemmas.Slots.{slot_file, file_above, file_empty, file-used}
 use Rattle.image.specs.Image.{view_of}
 use Rattle.laws.specs.Reader.{bytes}
 use Rattle.laws.specs.Splice.{splice}
 use Rattle.view.specs.Disk.{used}
-use borrow.Author.Tests.{not-true}
 use Rattle.calls.proofs.page_slot.Goals as goal
 
 pub returns-then-slots-slot : goal.returns-then-slots-slot

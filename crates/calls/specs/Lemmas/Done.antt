@@ -8,7 +8,8 @@ use Rattle.layout.specs.declared.Kind.{Kind}
 use Rattle.layout.specs.declared.Density.{Density}
 use Rattle.layout.specs.declared.Layout.{Layout}
 use Rattle.layout.specs.Layouts.{layout_of, image_length}
-use Rattle.layout.specs.Right.{LayoutRight, layout_right}
+use Rattle.layout.specs.Right.{LayoutRight}
+use Rattle.layout.proofs.Right.{layout_right}
 use Rattle.blocks.specs.Blocks.{blocks_for, links_for}
 use Rattle.names.specs.Names.{legal_name}
 use Rattle.map.specs.Map.{map_at, free_blocks, free_count, Chained}
@@ -17,15 +18,15 @@ use Rattle.laws.specs.declared.Refusal.{Refusal}
 use Rattle.image.specs.Image.{view_of, files_in, DiskRules, put_image, remove_image}
 use Rattle.changes.specs.Changes.{Puttable}
 use Rattle.record.specs.Record.{shape_of, list, find, page, put, remove, valued, done, refused_by, free, judge_name, judge_put, file_at, listing, finding, paging, putting, removing}
-use Rattle.record.specs.Lemmas.Granted.{granted_put}
-use Rattle.record.specs.Lemmas.Update.{free_is, put_slot, content_some, remove_slot}
+use Rattle.record.proofs.Lemmas.Granted.{granted_put}
+use Rattle.record.specs.Lemmas.Update.{free_is}
+use Rattle.record.proofs.Lemmas.Update.{put_slot, content_some, remove_slot}
 use Rattle.record.specs.declared.Judged.{Judged}
 use Rattle.record.specs.declared.Judged.TheVariants.{Refuse, Grant}
-use Rattle.record.specs.Step.{after}
 use Rattle.rules.specs.declared.Checked.{Checked}
 use Rattle.rules.specs.declared.Checked.TheVariants.{Accepted}
 use Rattle.rules.specs.Check.{came, check_of, call_of}
-use Rattle.rules.specs.Accepted.{accepted-rules, accepted_counts}
+use Rattle.rules.proofs.Accepted.{accepted-rules, accepted_counts}
 use Rattle.rules.specs.Lemmas.States.{step_list, step_find, step_put, step_remove, step_page}
 use Rattle.calls.specs.Answers.{found_of, found_by}
 use Rattle.calls.specs.Metered.{page_cost, cost_in}

@@ -17,7 +17,8 @@ use Rattle.laws.specs.Lemmas.Reader.{tab_is}
 use Rattle.layout.specs.declared.Layout.{Layout}
 use Rattle.layout.specs.Right.{LayoutRight}
 use Rattle.names.specs.Names.{legal_name, legal_type, area_of, name_of, capitals}
-use Rattle.names.specs.NameLaws.{length-area, name_back, area_back, capitals-area}
+use Rattle.names.specs.NameLaws.{length-area, area_back}
+use Rattle.names.proofs.NameLaws.{name_back, capitals-area}
 use Rattle.view.specs.Disk.{used, has_name, files_of, Used}
 use Rattle.view.specs.Lemmas.Formed.{formed-parts, type_some}
 use Rattle.view.specs.Lemmas.Namesakes.{empty_unnamed}

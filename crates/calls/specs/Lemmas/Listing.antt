@@ -7,7 +7,7 @@ use Rattle.laws.specs.Splice.{part}
 use Rattle.laws.specs.Padded.{padded}
 use Rattle.laws.specs.Lemmas.Padded.{padded_nil, take-padded}
 use Rattle.laws.specs.Reader.{bytes, tab}
-use Rattle.laws.specs.Lemmas.Reader.{tab-part}
+use Rattle.laws.proofs.Lemmas.Reader.{tab-part}
 use Rattle.layout.specs.declared.Layout.{Layout}
 use Rattle.layout.specs.Layouts.{slot_offset}
 use Rattle.layout.specs.Right.{LayoutRight}

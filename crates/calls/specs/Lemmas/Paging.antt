@@ -6,7 +6,8 @@ use Rattle.std.proofs.Math.Option.{Option, none, some}
 use Rattle.std.proofs.Math.ListN.{length, length-take}
 use Rattle.std.proofs.lemmas.List.Edits.{sets-eq}
 use Rattle.laws.specs.Splice.{splice, part}
-use Rattle.laws.specs.Lemmas.Splice.{length_part, part_ext}
+use Rattle.laws.specs.Lemmas.Splice.{length_part}
+use Rattle.laws.proofs.Lemmas.Splice.{part_ext}
 use Rattle.laws.specs.Reader.{bytes}
 use Rattle.laws.specs.Lemmas.Reader.{length-tab}
 use Rattle.layout.specs.declared.Layout.{Layout}

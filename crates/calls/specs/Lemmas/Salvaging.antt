@@ -8,14 +8,16 @@ use Rattle.layout.specs.declared.Kind.{Kind}
 use Rattle.layout.specs.declared.Density.{Density}
 use Rattle.layout.specs.declared.Layout.{Layout}
 use Rattle.layout.specs.Layouts.{layout_of, image_length}
-use Rattle.layout.specs.Right.{LayoutRight, layout_right}
+use Rattle.layout.specs.Right.{LayoutRight}
+use Rattle.layout.proofs.Right.{layout_right}
 use Rattle.salvage.specs.Salvage.{salvage_image, map_changes, report_after}
 use Rattle.record.specs.Record.{salvage, refused, refused_by, valued, Outcome}
 use Rattle.rules.specs.declared.Known.{Known}
 use Rattle.rules.specs.declared.Known.TheVariants.{Disk, Unknown}
 use Rattle.rules.specs.Check.{known_of, known_start, came, salvage_as, salvage_known, salvage_of, call_of}
 use Rattle.rules.specs.Head.{whole_known}
-use Rattle.rules.specs.Salvage.{salvage_call_is, salvage_unknown, known_size}
+use Rattle.rules.specs.Salvage.{salvage_unknown}
+use Rattle.rules.proofs.Salvage.{salvage_call_is, known_size}
 
 module _ (l : Layout) (img report : List ℕ) where
   pub as_short : length report < l.slots → came (refused 21 0) report img ≡ salvage_as l img report

@@ -2,7 +2,6 @@
 -- the blocks of lower slots' chains. Each way out of a loop and each turn is one law of a walk's steps, of marks or of a search. Assumes nothing.
 use Rattle.std.proofs.Common.{◌≡◌, refl, sym, ap, ◌∙◌, Bool, true, false, not, List, ℕ, ◌+◌, ◌-◌, ◌<◌, arith}
 use Rattle.std.proofs.Math.Nat.{sub-zero}
-use Rattle.std.proofs.lemmas.Bool.{not-false}
 use Rattle.blocks.specs.Blocks.{links_for}
 use Rattle.chains.specs.Lemmas.Tally.{empty_marks, chain_marks}
 use Rattle.chains.specs.Passes.{Followed}
@@ -17,12 +16,12 @@ use Rattle.layout.specs.Right.{LayoutRight}
 use Rattle.layout.specs.declared.Layout.{Layout}
 use Rattle.map.specs.Lemmas.Chains.{chain_data}
 use Rattle.map.specs.Lemmas.Marks.{marks_none, mark_last, mark_next}
-use Rattle.map.specs.Lemmas.Walks.{link_data, walk_chained, walk_bad, walk_whole, walk-over, walk_cut, walk-on}
+use Rattle.map.specs.Lemmas.Walks.{link_data, walk_bad, walk_whole, walk-over, walk_cut, walk-on}
+use Rattle.map.proofs.Lemmas.Walks.{walk_chained}
 use Rattle.map.specs.Map.{map_at, is_link, chain, Chained, Walk, Whole, Bad, Cut, walk, is_whole, fault_of, marked, Marks}
 use Rattle.view.specs.Disk.{View, used, owned}
 use Rattle.view.specs.Rules.{walk_of, broken, or_fail}
 use Rattle.view.specs.declared.Ruled.TheVariants.{Pass, Fail}
-use borrow.Author.Tests.{not-true}
 use Rattle.chains.proofs.chain_fault.Goals as goal
 
 -- ---- a slot's walk and the search's test

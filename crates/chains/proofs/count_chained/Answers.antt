@@ -1,12 +1,10 @@
 -- `chains::count_chained` meets its contract: the blocks counted are those of the slots below.
 -- No chain is broken, so each is short, and a slot adds its links and one. Assumes nothing.
 use Rattle.std.proofs.Common.{◌≡◌, refl, sym, ap, ◌∙◌, true, ℕ, ◌+◌, ◌≤◌, ◌<◌, arith}
-use Rattle.std.proofs.lemmas.Bool.{not-false}
 use Rattle.chains.specs.Lemmas.Tally.{owned_empty, owned-used, links_few}
 use Rattle.image.specs.Image.{view_of}
 use Rattle.laws.specs.Reader.{bytes}
 use Rattle.view.specs.Disk.{used, owned}
-use borrow.Author.Tests.{not-true}
 use Rattle.chains.proofs.count_chained.Goals as goal
 
 pub loop-next-init : goal.loop-next-init

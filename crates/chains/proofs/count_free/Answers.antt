@@ -4,7 +4,7 @@ use Rattle.chains.proofs.count_free.Invariants.{is_free}
 use Rattle.chains.proofs.count_free.Goals.{then-map_at-eq0, else-map_at-eq0}
 use Rattle.std.proofs.Common.{sym, ◌∙◌, arith, eq-eqb, ne_eqb}
 use Rattle.laws.specs.Lemmas.Scan.{count_end, count_stop, count-on}
-use Rattle.map.specs.Map.{map_at, free_count}
+use Rattle.map.specs.Map.{free_count}
 use Rattle.chains.proofs.count_free.Goals as goal
 
 pub loop-block-preserved : goal.loop-block-preserved

@@ -2,7 +2,7 @@
 -- Each turn is one law of a count. Assumes nothing.
 use Rattle.chains.proofs.count_marked.Invariants.{is_marked}
 use Rattle.chains.proofs.count_marked.Goals.{then-marks-block, else-marks-block}
-use Rattle.std.proofs.Common.{false, ◌-◌, arith}
+use Rattle.std.proofs.Common.{◌-◌, arith}
 use Rattle.laws.specs.Lemmas.Scan.{count_end, count_stop, count-on, count_split}
 use Rattle.chains.proofs.count_marked.Goals as goal
 

@@ -2,7 +2,6 @@
 -- No chain is broken, so each is a faultless one to walk; the slots left answer as all. Assumes nothing.
 use Rattle.std.proofs.Common.{◌≡◌, sym, ap, ◌∙◌, Bool, true, false, List, ℕ, ◌+◌, ◌<◌, arith, rules}
 use Rattle.std.proofs.Math.Nat.{sub-zero}
-use Rattle.std.proofs.lemmas.Bool.{not-false}
 use Rattle.blocks.specs.Blocks.{links_for}
 use Rattle.chains.specs.Lemmas.Tally.{empty_marks, chain_marks, slot_chained}
 use Rattle.image.specs.Image.{view_of}
@@ -19,7 +18,6 @@ use Rattle.map.specs.Lemmas.Marks.{marks_none, touched-meets}
 use Rattle.map.specs.Map.{chain, Chained, touched, marked, Marks}
 use Rattle.view.specs.Disk.{View, used, chain_of, owned}
 use Rattle.view.specs.Rules.{broken, sharing}
-use borrow.Author.Tests.{not-true}
 use Rattle.chains.proofs.share_fault.Goals as goal
 
 -- ---- an empty slot: nothing is shared

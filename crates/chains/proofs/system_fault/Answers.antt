@@ -1,10 +1,8 @@
 -- `chains::system_fault` meets its contract: the answer of the system blocks left is the answer of all.
 -- Each way out of the loop and each turn is one law of a search. Assumes nothing.
-use Rattle.chains.proofs.system_fault.Invariants.{wrong}
 use Rattle.std.proofs.Common.{sym, ap, ◌∙◌, not, eq-eqb, ne_eqb}
 use Rattle.std.proofs.Math.Nat.{sub-zero}
 use Rattle.laws.specs.Lemmas.Scan.{lowest_end, lowest_stop, lowest-on}
-use Rattle.map.specs.Map.{map_at}
 use Rattle.view.specs.Rules.{bad_system}
 use Rattle.chains.proofs.system_fault.Goals as goal
 

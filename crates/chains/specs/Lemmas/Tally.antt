@@ -23,7 +23,8 @@ use Rattle.blocks.specs.Blocks.{links_for}
 use Rattle.map.specs.Map.{Data, chain, Chained, is_whole, free_count, marked, Marks}
 use Rattle.map.specs.Lemmas.Chains.{length-chain, chain_data, chain-taken, chain_short}
 use Rattle.map.specs.Lemmas.Marks.{marks_more}
-use Rattle.map.specs.Lemmas.Walks.{walk_chained, whole_is}
+use Rattle.map.specs.Lemmas.Walks.{whole_is}
+use Rattle.map.proofs.Lemmas.Walks.{walk_chained}
 use Rattle.view.specs.Disk.{View, used, entry_chain, chain_of, owned}
 use Rattle.view.specs.Lemmas.Counting.{owned_by}
 use Rattle.view.specs.Rules.{walk_of, broken, sharing, stray}

@@ -19,7 +19,8 @@ use Rattle.layout.specs.declared.Density.{Density}
 use Rattle.layout.specs.declared.Density.TheVariants.{Low, High}
 use Rattle.layout.specs.declared.Layout.{Layout}
 use Rattle.layout.specs.Layouts.{layout_of, length_of, head_length, block_offset, slot_offset}
-use Rattle.layout.specs.Right.{LayoutRight, layout_right}
+use Rattle.layout.specs.Right.{LayoutRight}
+use Rattle.layout.proofs.Right.{layout_right}
 use Rattle.map.specs.Map.{map_at, free_count}
 use Rattle.view.specs.declared.Ruled.{Ruled}
 use Rattle.view.specs.declared.Ruled.TheVariants.{Pass, Fail}

@@ -1,7 +1,8 @@
 -- `headers::rows_fault` meets its contract, for every table at once: the fault of the first row that has one.
 -- By what the rows from row i on give. Assumes nothing.
 use Rattle.std.proofs.Common.{arith, refl}
-use Rattle.rows.specs.Lemmas.Arms.{rows_stop, rows_on, rows_clean}
+use Rattle.rows.specs.Lemmas.Arms.{rows_clean}
+use Rattle.rows.proofs.Lemmas.Arms.{rows_stop, rows_on}
 use Rattle.headers.proofs.rows_fault.Goals as goal
 
 pub returns-in-At : goal.returns-in-At

@@ -1,6 +1,6 @@
 -- What remove and put change of the disk that an image holds: the relations of `view`, from the images byte for byte.
 -- Directory, map and data blocks lie apart, so a write to one leaves the others. Assumes nothing.
-use Rattle.std.specs.Prelude.{◌≡◌, refl, List, ◌⊎◌, ℕ, ◌+◌, ◌*◌, ◌≤◌, ◌<◌, take, replicate}
+use Rattle.std.specs.Prelude.{◌≡◌, List, ◌⊎◌, ℕ, ◌+◌, ◌*◌, ◌≤◌, ◌<◌, take, replicate}
 use Rattle.std.proofs.Math.Path.{ap}
 use Rattle.std.proofs.Common.{◌∙◌, inl, inr, arith}
 use Rattle.std.proofs.Math.Decide.{dec_lt, ℕ_discrete}
@@ -19,7 +19,8 @@ use Rattle.blocks.specs.Blocks.{block_at, write_blocks}
 use Rattle.blocks.specs.Lemmas.Blocks.{read_cong, length_write, write_low, write_other, write_read}
 use Rattle.map.specs.Map.{Data, map_at, set_all, Outside}
 use Rattle.map.specs.Lemmas.Chains.{Linked, linked_cong}
-use Rattle.map.specs.Lemmas.Linking.{length_link, link_other, link_outside, link_on, length-set-all, set-all-other, set-all_outside, set-all-on}
+use Rattle.map.specs.Lemmas.Linking.{length_link, length-set-all, set-all-other, set-all_outside, set-all-on}
+use Rattle.map.proofs.Lemmas.Linking.{link_other, link_outside, link_on}
 use Rattle.view.specs.Disk.{Entry, entry_chain}
 use Rattle.view.specs.Lemmas.Remove.{Removed}
 use Rattle.view.specs.Lemmas.Put.{Stored}

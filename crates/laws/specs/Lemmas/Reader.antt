@@ -1,10 +1,10 @@
 -- Bytes read by their offsets through a function: lists of them, and readers that agree on a range.
 -- A definition over a reader computes on sparse bytes as on a real list. Assumes nothing.
 use Rattle.std.specs.Prelude.{◌≡◌, refl, List, [], ◌∷◌, ◌++◌, ◌⊎◌, ℕ, zero, suc, ◌+◌, ◌≤◌, ◌<◌, length, get_or}
-use Rattle.std.proofs.Common.{sym, ap, ◌∙◌, inl, inr, le_of_suc-le-suc, not-suc-le-zero, suc-add, add-suc, add-zero, zero-add, arith, ext_get_or}
+use Rattle.std.proofs.Common.{ap, ◌∙◌, inl, inr, le_of_suc-le-suc, not-suc-le-zero, suc-add, add-suc, add-zero, zero-add, arith, ext_get_or}
 use Rattle.laws.specs.Lemmas.Scan.{over_cong}
-use Rattle.laws.specs.Splice.{splice, part}
-use Rattle.laws.specs.Lemmas.Splice.{get_or-splice_below, get_or-splice_past, length_part, get_or_part}
+use Rattle.laws.specs.Splice.{splice}
+use Rattle.laws.specs.Lemmas.Splice.{get_or-splice_below, get_or-splice_past}
 use Rattle.laws.specs.Reader.{bytes, tab}
 
 -- c reads as b does at the n offsets from a on
@@ -27,12 +27,6 @@ pub tab_is : (f : ℕ → ℕ) (i : ℕ) (vs : List ℕ) → ((k : ℕ) → k < 
 tab_is f i vs h =
     ext_get_or 0 (tab f i (length vs)) vs (length-tab f i (length vs))
     (λ k p. let q : k < length vs = omega (arith, length-tab f i (length vs)) in get_or-tab f i (length vs) k q ∙ h k q)
-
--- a part of a list, as code copies it
-pub tab-part : (l : List ℕ) (a n : ℕ) → a + n ≤ length l → tab (bytes l) a n ≡ part l a n
-tab-part l a n h =
-    ext_get_or 0 (tab (bytes l) a n) (part l a n) (length-tab (bytes l) a n ∙ sym (length_part l a n h))
-    (λ k p. let q : k < n = omega (arith, length-tab (bytes l) a n) in get_or-tab (bytes l) a n k q ∙ sym (get_or_part l a n k q))
 
 pub tab_cong : (b c : ℕ → ℕ) (a n : ℕ) → Agree a n b c → tab c a n ≡ tab b a n
 unfolding tab

@@ -10,7 +10,6 @@ use Rattle.std.proofs.Math.Decide.{ℕ_discrete, dec_lt}
 use Rattle.std.proofs.Math.Nat.{add-zero}
 use Rattle.std.proofs.Math.Numerals.{add-one}
 use native.Mathlib.Omega.{arith}
-use Rattle.laws.specs.declared.Lowest.{Lowest}
 use Rattle.laws.specs.declared.Lowest.TheVariants.{At, Nowhere}
 use Rattle.laws.specs.Truth.{pick, both, within}
 use Rattle.laws.specs.Lemmas.Truth.{clash, within_in, within_below, within_above}
@@ -341,14 +340,6 @@ pub →none : (f : ℕ → Bool) (i n : ℕ) → ((k : ℕ) → i ≤ k → k < 
 unfolding any
 →none f i zero h = refl
 →none f i (suc n) h = rw (h i (omega arith) (omega arith)) (→none f (suc i) n (λ k p q. h k (omega arith) (omega arith)))
-
--- one passes: the lowest that does
-pub some→ : (f : ℕ → Bool) (i n : ℕ) → any f i n ≡ true → (k : ℕ) × (i ≤ k) × (k < i + n) × (f k ≡ true)
-some→ f i n e = go (lowest f i n) refl
-  where
-    go : (w : Lowest) → lowest f i n ≡ w → (k : ℕ) × (i ≤ k) × (k < i + n) × (f k ≡ true)
-    go (At k) p = let w = at→ f i n k p in (k, w.0, w.1, w.2)
-    go Nowhere p = absurd (clash e (→none f i n (nowhere→ f i n p)))
 
 -- ---- a sum
 

@@ -1,11 +1,9 @@
 -- A loop that searches for the lowest place: what the rest finds is what the whole finds. Its start, its stop, its next turn and its end.
 -- By the laws of `lowest`; r is what the code answers of the place in hand. Assumes nothing.
-use Rattle.std.specs.Prelude.{◌≡◌, refl, Bool, true, false, ℕ, ◌+◌, ◌-◌, ◌≤◌, ◌<◌}
-use Rattle.std.proofs.Common.{sym, ◌∙◌, arith}
+use Rattle.std.specs.Prelude.{◌≡◌, refl, Bool, ℕ, ◌-◌, ◌≤◌}
+use Rattle.std.proofs.Common.{arith}
 use Rattle.std.proofs.Math.Nat.{sub-zero}
 use Rattle.laws.specs.Scan.{lowest}
-use Rattle.laws.specs.Lemmas.Scan.{lowest_end, lowest_stop, lowest-on}
-use Rattle.laws.specs.declared.Lowest.TheVariants.{At, Nowhere}
 
 -- the places below i are passed
 abbrev pub Searched : (ℕ → Bool) → ℕ → ℕ → Type 0
@@ -13,13 +11,3 @@ Searched f n i = (i ≤ n) × (lowest f i (n - i) ≡ lowest f 0 n)
 
 pub searched_none : (f : ℕ → Bool) (n : ℕ) → Searched f n 0
 searched_none f n = (omega arith, rw (sub-zero n) refl)
-
-module _ (f : ℕ → Bool) (n i : ℕ) (s : Searched f n i) where
-  pub searched_found : i < n → {r : Bool} → r ≡ f i → r ≡ true → At i ≡ lowest f 0 n
-  searched_found h e t = sym (lowest_stop f i n h (sym e ∙ t)) ∙ s.1
-
-  pub searched_more : i < n → {r : Bool} → r ≡ f i → r ≡ false → Searched f n (i + 1)
-  searched_more h e t = (omega arith, sym (lowest-on f i n h (sym e ∙ t)) ∙ s.1)
-
-  pub searched_all : n ≤ i → Nowhere ≡ lowest f 0 n
-  searched_all h = sym (lowest_end f i n h) ∙ s.1

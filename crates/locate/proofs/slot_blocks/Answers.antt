@@ -1,11 +1,9 @@
 -- `locate::slot_blocks` meets its contract: 10 for a slot without a file, 21 for a short output, else the blocks of its chain.
 -- A used slot of an accepted image has a faultless chain, which is collected and copied. Assumes nothing.
 use Rattle.std.proofs.Common.{sym, ◌∙◌, arith}
-use Rattle.std.proofs.lemmas.Bool.{not-false}
 use Rattle.calls.specs.Lemmas.Paging.{size_some, slot_chained}
 use Rattle.changes.specs.Lemmas.Lent.{count_fits, lent-all}
 use Rattle.locate.specs.Lemmas.Locate.{blocks_above, blocks_empty, blocks_short, blocks_all}
-use borrow.Author.Tests.{not-true}
 use Rattle.locate.proofs.slot_blocks.Goals as goal
 
 pub returns-then-slots-slot : goal.returns-then-slots-slot

@@ -2,7 +2,8 @@
 -- Each block passed is free, and collected, or it isn't; the loop stops where none is left or none is wanted. Assumes nothing.
 use Rattle.std.proofs.Common.{◌≡◌, sym, ◌∙◌, ◌-◌, ◌<◌, arith, ltb-true, ltb-false}
 use Rattle.laws.specs.Reader.{bytes}
-use Rattle.map.specs.Lemmas.Collect.{collect_none, collect_one, collect_end, wanted_stop, wanted_on, wanted_end, wanted_full}
+use Rattle.map.specs.Lemmas.Collect.{collect_none, collect_one, collect_end, wanted_end, wanted_full}
+use Rattle.map.proofs.Lemmas.Collect.{wanted_stop, wanted_on}
 use Rattle.map.specs.Map.{map_at, free_blocks}
 use Rattle.map.proofs.free_blocks.Goals.{then-map_at-eq0, else-map_at-eq0}
 use Rattle.map.proofs.free_blocks.Goals as goal

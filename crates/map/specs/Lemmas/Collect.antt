@@ -1,13 +1,13 @@
 -- A loop that collects blocks in an array: were those still to come written after those in it, it would hold all of them.
 -- A write of blocks stores the first and then the others, and none that is to come leaves the array. Assumes nothing.
-use Rattle.std.specs.Prelude.{◌≡◌, refl, List, [], ◌∷◌, ℕ, suc, ◌+◌, ◌-◌, ◌≤◌, ◌<◌, length, take, set, replicate}
+use Rattle.std.specs.Prelude.{◌≡◌, refl, List, [], ◌∷◌, ℕ, ◌+◌, ◌-◌, ◌≤◌, length, take, set, replicate}
 use Rattle.std.proofs.Common.{sym, ap, ◌∙◌, zero-add, add-one, arith}
 use Rattle.std.proofs.Math.Seq.{take-nil}
 use Rattle.laws.specs.Splice.{splice}
 use Rattle.laws.specs.Lemmas.Padded.{splice_zeros}
 use Rattle.map.specs.declared.Blocks.{Blocks}
 use Rattle.map.specs.Map.{Collected, free_from}
-use Rattle.map.specs.Lemmas.Free.{free_end, free_stop, free_on}
+use Rattle.map.specs.Lemmas.Free.{free_end}
 
 -- n of all blocks are in the list, which was `zeros` at first, and the rest is to come
 pub record Collecting (zeros all list rest : List ℕ) (n : ℕ) : Type 0 where
@@ -32,13 +32,6 @@ collect_end r {all} h t c =
 -- ---- the free blocks still to come, from block i on, where k of those wanted are there
 
 module _ (m : ℕ → ℕ) (i n k wanted : ℕ) where
-  pub wanted_stop : i < n → k < wanted → m i ≡ 0
-      → take (wanted - k) (free_from m i (n - i)) ≡ i ∷ take (wanted - (k + 1)) (free_from m (i + 1) (n - (i + 1)))
-  wanted_stop h w e = let z : wanted - k ≡ suc (wanted - (k + 1)) = omega arith in rw (z, free_stop m i n h e)
-
-  pub wanted_on : i < n → (m i ≡ 0 → ⊥) → take (wanted - k) (free_from m i (n - i)) ≡ take (wanted - k) (free_from m (i + 1) (n - (i + 1)))
-  wanted_on h e = ap (take (wanted - k)) (free_on m i n h e)
-
   pub wanted_end : n ≤ i → take (wanted - k) (free_from m i (n - i)) ≡ []
   wanted_end h = ap (take (wanted - k)) (free_end m i n h) ∙ take-nil (wanted - k)
 

@@ -6,13 +6,12 @@ use Rattle.std.proofs.Math.Decide.{dec_lt}
 use Rattle.laws.specs.Lemmas.Splice.{length-splice}
 use Rattle.laws.specs.Reader.{bytes}
 use Rattle.laws.specs.Lemmas.Reader.{splice_off}
-use Rattle.laws.specs.Member.{In, Distinct}
+use Rattle.laws.specs.Member.{In}
 use Rattle.laws.specs.Lemmas.Member.{dec_in}
 use Rattle.layout.specs.Layouts.{map_offset}
 use Rattle.blocks.specs.Numbers.{digits}
 use Rattle.blocks.specs.Lemmas.Numbers.{number_cong, number_same, digits-over}
 use Rattle.map.specs.Map.{map_at, set_map, first_or, link_blocks, set_all, Outside}
-use Rattle.map.specs.Lemmas.Chains.{Linked}
 
 -- ---- one map value
 
@@ -45,10 +44,10 @@ off_by c b i n (no p) x y = inr (omega arith)
 pub map_other : (img : List ℕ) (b v c : ℕ) → (c ≡ b → ⊥) → map_at (bytes (set_map img b v)) c ≡ map_at (bytes img) c
 map_other img b v c n = number_cong 2 (bytes img) (bytes (set_map img b v)) (map_offset c) (λ i x y. set_off img b v i (off_by c b i n (dec_lt c b) x y))
 
-off_other : (bs : List ℕ) (c i : ℕ) → (In c bs → ⊥) → map_offset c ≤ i → i < map_offset c + 2 → Off bs i
+pub off_other : (bs : List ℕ) (c i : ℕ) → (In c bs → ⊥) → map_offset c ≤ i → i < map_offset c + 2 → Off bs i
 off_other bs c i n x y b j = off_by c b i (λ e. n (rw e j)) (dec_lt c b) x y
 
-off_outside : (bs : List ℕ) (n i : ℕ) → ((b : ℕ) → In b bs → b < n) → Outside n i → Off bs i
+pub off_outside : (bs : List ℕ) (n i : ℕ) → ((b : ℕ) → In b bs → b < n) → Outside n i → Off bs i
 off_outside bs n i h (inl p) b j = inl (omega arith)
 off_outside bs n i h (inr p) b j = inr (omega (arith, h b j))
 
@@ -64,28 +63,10 @@ unfolding link_blocks
 link_off img [] mark i o = refl
 link_off img (b ∷ bs) mark i o = link_off (set_map img b (first_or bs mark)) bs mark i (λ x k. o x (inr k)) ∙ set_off img b _ i (o b (inl refl))
 
-pub link_other : (img bs : List ℕ) (mark c : ℕ) → (In c bs → ⊥) → map_at (bytes (link_blocks img bs mark)) c ≡ map_at (bytes img) c
-link_other img bs mark c n = number_cong 2 (bytes img) (bytes (link_blocks img bs mark)) (map_offset c) (λ i x y. link_off img bs mark i (off_other bs c i n x y))
-
-pub link_outside : (img bs : List ℕ) (mark n i : ℕ) → ((b : ℕ) → In b bs → b < n) → Outside n i → bytes (link_blocks img bs mark) i ≡ bytes img i
-link_outside img bs mark n i h o = link_off img bs mark i (off_outside bs n i h o)
-
 pub first_below : (bs : List ℕ) (mark n top : ℕ) → ((b : ℕ) → In b bs → b < n) → n ≤ top → mark < top → first_or bs mark < top
 unfolding first_or
 first_below [] mark n top h k m = m
 first_below (b ∷ bs) mark n top h k m = omega (arith, h b (inl refl))
-
--- the blocks read back as a chain
-pub link_on : (img bs : List ℕ) (mark n : ℕ) → Distinct bs → ((b : ℕ) → In b bs → b < n) → n ≤ 65536 → mark < 65536 → map_offset n ≤ length img
-    → Linked (map_at (bytes (link_blocks img bs mark))) bs mark
-unfolding link_blocks Linked
-link_on img [] mark n d h k m s = tt
-link_on img (b ∷ bs) mark n d h k m s =
-    let v = first_or bs mark in
-    let low : b < n = h b (inl refl) in (
-      link_other (set_map img b v) bs mark b d.0 ∙ map_same img b v (omega arith) (first_below bs mark n 65536 (λ x i. h x (inr i)) k m),
-      link_on (set_map img b v) bs mark n d.1 (λ x i. h x (inr i)) k m (omega (arith, length-set-map img b v)),
-    )
 
 -- ---- one value at some blocks
 

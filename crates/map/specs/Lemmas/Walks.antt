@@ -3,9 +3,9 @@
 use Rattle.std.specs.Prelude.{◌≡◌, refl, Bool, true, false, ◌⊎◌, leb, ltb, eqb}
 use Rattle.std.proofs.Common.{sym, true≢false, inl, inr, sub-one, arith}
 use Prim.Native.Nat.{ℕ, zero, suc, ◌-◌, ◌<◌}
-use borrow.Author.Tests.{eqb-true, eqb-false, eq-eqb, ne_eqb, leb-true, ltb-true, le-leb, lt-ltb}
+use borrow.Author.Tests.{eq-eqb, ne_eqb, leb-true, ltb-true, le-leb, lt-ltb}
 use Rattle.laws.specs.Truth.{pick}
-use Rattle.laws.specs.Lemmas.Truth.{both_true, true_both, clash, false_if}
+use Rattle.laws.specs.Lemmas.Truth.{both_true, true_both, false_if}
 use Rattle.layout.specs.declared.Layout.{Layout}
 use Rattle.layout.specs.Right.{LayoutRight}
 use Rattle.map.specs.Map.{Data, Chained, Astray, Miscounted, is_link, Walk, Whole, Bad, Cut, walk, is_whole}
@@ -27,42 +27,6 @@ pub whole_is : (w : Walk) → is_whole w ≡ true → w ≡ Whole
 whole_is Whole e = refl
 whole_is Bad e = absurd (true≢false (sym e))
 whole_is Cut e = absurd (true≢false (sym e))
-
--- what a walk's end says of the chain
-abbrev Says : Layout → (ℕ → ℕ) → ℕ → ℕ → Walk → Type 0
-Says l m k b Whole = Chained l m k b
-Says l m k b Bad = Astray l m k b
-Says l m k b Cut = Miscounted l m k b
-
-says_on : (l : Layout) (m : ℕ → ℕ) (k b : ℕ) (w : Walk) → Data l b → (m b ≡ l.mark → ⊥) → Says l m k (m b) w → Says l m (suc k) b w
-unfolding Chained Astray Miscounted
-says_on l m k b Whole d n s = (d, s)
-says_on l m k b Bad d n s = inr (d, n, s)
-says_on l m k b Cut d n s = (d, inr s)
-
-walk_says : (l : Layout) (m : ℕ → ℕ) (k b : ℕ) → Says l m k b (walk l m k b)
-unfolding walk Chained Astray Miscounted
-walk_says l m zero b = go (is_link l b) (eqb (m b) l.mark) refl refl
-  where
-    go : (t u : Bool) → is_link l b ≡ t → eqb (m b) l.mark ≡ u → Says l m zero b (pick t (pick u Whole Cut) Bad)
-    go false u e f = λ d. clash (data_link l b d) e
-    go true true e f = (link_data l b e, eqb-true (m b) l.mark f)
-    go true false e f = (link_data l b e, eqb-false (m b) l.mark f)
-walk_says l m (suc k) b = go (walk_says l m k (m b)) (is_link l b) (eqb (m b) l.mark) refl refl
-  where
-    go : Says l m k (m b) (walk l m k (m b)) → (t u : Bool) → is_link l b ≡ t → eqb (m b) l.mark ≡ u → Says l m (suc k) b (pick t (pick u Cut (walk l m k (m b))) Bad)
-    go ih false u e f = inl (λ d. clash (data_link l b d) e)
-    go ih true true e f = (link_data l b e, inl (eqb-true (m b) l.mark f))
-    go ih true false e f = says_on l m k b (walk l m k (m b)) (link_data l b e) (eqb-false (m b) l.mark f) ih
-
-pub walk_chained : (l : Layout) (m : ℕ → ℕ) (k b : ℕ) → walk l m k b ≡ Whole → Chained l m k b
-walk_chained l m k b e = rw e at (walk_says l m k b)
-
-pub walk_astray : (l : Layout) (m : ℕ → ℕ) (k b : ℕ) → walk l m k b ≡ Bad → Astray l m k b
-walk_astray l m k b e = rw e at (walk_says l m k b)
-
-pub walk_miscounted : (l : Layout) (m : ℕ → ℕ) (k b : ℕ) → walk l m k b ≡ Cut → Miscounted l m k b
-walk_miscounted l m k b e = rw e at (walk_says l m k b)
 
 pub chained_walk : (l : Layout) → LayoutRight l → (m : ℕ → ℕ) (k b : ℕ) → Chained l m k b → walk l m k b ≡ Whole
 unfolding walk Chained

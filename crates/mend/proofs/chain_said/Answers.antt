@@ -1,7 +1,6 @@
 -- `mend::chain_said` meets its contract: what is said of the rest of the chain, after what was met so far, is what is said of the whole chain, and the blocks
 -- gone through are noted. The block in hand is a data block before it is looked up, so below 1,600. Assumes nothing.
-use Rattle.std.proofs.Common.{◌≡◌, refl, sym, ap, ◌∙◌, Bool, true, false, ◌+◌, ◌-◌, ◌≤◌, arith}
-use Rattle.std.proofs.lemmas.Bool.{not-false}
+use Rattle.std.proofs.Common.{◌≡◌, refl, sym, ap, ◌∙◌, Bool, true, ◌+◌, ◌-◌, ◌≤◌, arith}
 use Rattle.laws.specs.Reader.{bytes}
 use Rattle.laws.specs.Truth.{pick}
 use Rattle.map.specs.Lemmas.Chains.{nth_first, nth_next}
@@ -9,7 +8,6 @@ use Rattle.map.specs.Lemmas.Walks.{link_data}
 use Rattle.map.specs.Map.{map_at, Data, is_link, chain}
 use Rattle.mend.specs.Lemmas.Noting.{Noting, noting_none, noting_one, noted_not, noted_whole}
 use Rattle.mend.specs.Lemmas.Walking.{said_astray, said_cut, said_early, said_last, said_on}
-use borrow.Author.Tests.{not-true}
 use Rattle.mend.proofs.chain_said.Goals as goal
 
 pub loop-layout-init : goal.loop-layout-init

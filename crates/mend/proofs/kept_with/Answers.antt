@@ -1,11 +1,9 @@
 -- `mend::kept_with` meets its contract: a slot without the keys and the type is none, of any other the report decides.
 -- By the keys and the type. Assumes nothing.
 use Rattle.std.proofs.Common.{sym, ◌∙◌}
-use Rattle.std.proofs.lemmas.Bool.{not-false}
 use Rattle.laws.specs.Lemmas.Truth.{false_both}
 use Rattle.mend.specs.Steps.{is_kept}
 use Rattle.slots.specs.Lemmas.Keys.{both_when}
-use borrow.Author.Tests.{not-true}
 use Rattle.mend.proofs.kept_with.Goals as goal
 
 pub returns-then-not-has_keys : goal.returns-then-not-has_keys

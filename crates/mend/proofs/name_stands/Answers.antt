@@ -2,7 +2,6 @@
 -- A kept slot is a used one. Assumes nothing.
 use Rattle.std.proofs.Common.{sym, ◌∙◌}
 use Rattle.mend.specs.Lemmas.Verdicts.{kept_none}
-use borrow.Author.Tests.{not-true}
 use Rattle.mend.proofs.name_stands.Goals as goal
 
 pub returns-then-not-twice : goal.returns-then-not-twice

@@ -8,7 +8,7 @@ use Rattle.layout.specs.declared.Layout.{Layout}
 use Rattle.layout.specs.Right.{LayoutRight}
 use Rattle.map.specs.Map.{Chained, chain}
 use Rattle.map.specs.Lemmas.Chains.{length-chain, chain_short}
-use Rattle.map.specs.Lemmas.Walks.{walk_chained}
+use Rattle.map.proofs.Lemmas.Walks.{walk_chained}
 use Rattle.mend.specs.Steps.{chain_said, Noted}
 use Rattle.mend.specs.Lemmas.Walking.{said_one}
 

@@ -19,7 +19,8 @@ use Rattle.view.specs.Rules.{bad_system, stray}
 use Rattle.image.specs.Image.{view_of}
 use Rattle.salvage.specs.Salvage.{drops, report_of, survivors, erase_slots, dropped_slots, wrong_system, stray_blocks, salvage_image, map_changes, report_after}
 use Rattle.salvage.specs.Lemmas.Erased.{erase_map}
-use Rattle.salvage.specs.Theorems.{report_said, salvage_count}
+use Rattle.salvage.specs.Theorems.{report_said}
+use Rattle.salvage.proofs.Theorems.{salvage_count}
 use Rattle.mend.specs.Steps.{used_end, is_dropped, is_lost}
 use Rattle.mend.specs.Lemmas.Verdicts.{end_low, above_said}
 

@@ -26,14 +26,16 @@ use Rattle.layout.specs.Right.{LayoutRight}
 use Rattle.blocks.specs.Blocks.{links_for}
 use Rattle.map.specs.Map.{chain, Chained, Walk, Whole, Bad, Cut, walk, is_whole, fault_of, touched, marked, Marks}
 use Rattle.map.specs.Lemmas.Chains.{length-chain, chain_data, chain_short}
-use Rattle.map.specs.Lemmas.Walks.{walk_chained, whole_is}
+use Rattle.map.specs.Lemmas.Walks.{whole_is}
+use Rattle.map.proofs.Lemmas.Walks.{walk_chained}
 use Rattle.map.specs.Lemmas.Marks.{marks_more, touched-meets}
 use Rattle.view.specs.Disk.{Entry, View, used, entry_chain, chain_of, owned}
 use Rattle.view.specs.Rules.{malformed, has_name_of, repeated, walk_of, broken, sharing}
 use Rattle.view.specs.Lemmas.Namesakes.{used-typed, empty_unnamed}
 use Rattle.slots.specs.Lemmas.Hashes.{highest-low, highest_above}
 use Rattle.salvage.specs.Salvage.{entries_after, disk_after, report_of}
-use Rattle.salvage.specs.Lemmas.Judged.{verdict_by, entry_ahead, entry_settled, kept_entry, gone_entry, kept_case, same-owned}
+use Rattle.salvage.specs.Lemmas.Judged.{verdict_by, entry_ahead, entry_settled, kept_entry}
+use Rattle.salvage.proofs.Lemmas.Judged.{gone_entry, kept_case, same-owned}
 use Rattle.mend.specs.Steps.{is_kept, kept_name, name_note, used_end, Reported, chain_said, Noted, Judging}
 
 -- ---- a slot's verdict

@@ -1,9 +1,7 @@
 -- `names::is_area` meets its contract: an area is legal where its front and its padding are.
 -- From what the callees ensure. Assumes nothing.
 use Rattle.std.proofs.Common.{refl, sym, ◌∙◌}
-use Rattle.std.proofs.lemmas.Bool.{not-false}
 use Rattle.names.specs.Names.{legal_area}
-use borrow.Author.Tests.{not-true}
 use Rattle.names.proofs.is_area.Goals as goal
 
 pub returns-then-not-is_front : goal.returns-then-not-is_front

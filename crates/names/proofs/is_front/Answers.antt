@@ -1,11 +1,9 @@
 -- `names::is_front` meets its contract: the rest of the name's bytes pass exactly when all do.
 -- The loop's answer is that of the bytes from i on. Assumes nothing.
 use Rattle.std.proofs.Common.{◌≡◌, refl, sym, ap, ◌∙◌, arith, take, get_or, get_or-take}
-use Rattle.std.proofs.lemmas.Bool.{not-false}
 use Rattle.laws.specs.Lemmas.Lists.{all_of_end, all_of_stop, all_of_on}
 use Rattle.names.specs.NameLaws.{length_front}
 use Rattle.names.specs.Names.{stored_byte}
-use borrow.Author.Tests.{not-true}
 use Rattle.names.proofs.is_front.Goals as goal
 
 pub loop-i-init : goal.loop-i-init

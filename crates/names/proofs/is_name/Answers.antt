@@ -1,10 +1,8 @@
 -- `names::is_name` meets its contract: the rest of the name passes exactly when the whole does.
 -- The loop's answer is that of the bytes from i on. Assumes nothing.
 use Rattle.std.proofs.Common.{refl, sym, ◌∙◌, arith, length, eq-eqb, ne_eqb}
-use Rattle.std.proofs.lemmas.Bool.{not-false}
 use Rattle.laws.specs.Lemmas.Lists.{all_of_end, all_of_stop, all_of_on}
 use Rattle.names.specs.Names.{given_byte, legal_name}
-use borrow.Author.Tests.{not-true}
 use Rattle.names.proofs.is_name.Goals as goal
 
 pub returns-then-name-letters : goal.returns-then-name-letters

@@ -4,8 +4,10 @@ use Rattle.pages.proofs.page_runs.Invariants.{page}
 use Rattle.std.proofs.Common.{◌≡◌, refl, sym, ap, ◌∙◌, List, [], ◌∷◌, ◌++◌, ℕ, zero, suc, ◌+◌, ◌-◌, ◌*◌, ◌/◌, ◌%◌, ◌≤◌, ◌<◌, arith, length, drop, get_or, length-drop, take_all}
 use Rattle.blocks.specs.Blocks.{read_blocks, block_at}
 use Rattle.blocks.specs.Lemmas.Blocks.{length-read}
-use Rattle.laws.specs.Lemmas.Reader.{length-tab, tab-part}
-use Rattle.laws.specs.Lemmas.Splice.{splice_none, splice-turns, length_part, length-splice, part-part}
+use Rattle.laws.specs.Lemmas.Reader.{length-tab}
+use Rattle.laws.proofs.Lemmas.Reader.{tab-part}
+use Rattle.laws.specs.Lemmas.Splice.{splice_none, length_part, length-splice}
+use Rattle.laws.proofs.Lemmas.Splice.{splice-turns, part-part}
 use Rattle.laws.specs.Reader.{bytes}
 use Rattle.laws.specs.Splice.{splice, part}
 use Rattle.layout.specs.Layouts.{image_length}
@@ -14,7 +16,8 @@ use Rattle.layout.specs.declared.Layout.{Layout}
 use Rattle.map.specs.Lemmas.Chains.{length-chain, chain_short, nth_first, nth_data, chained_from, nth_from}
 use Rattle.map.specs.Map.{map_at, Fits, Data, chain, Chained}
 use Rattle.pages.specs.Cost.{cost_of}
-use Rattle.pages.specs.Lemmas.Growing.{cost_low, cost_few, run_links, run_runs}
+use Rattle.pages.specs.Lemmas.Growing.{cost_low, cost_few}
+use Rattle.pages.proofs.Lemmas.Growing.{run_links, run_runs}
 use Rattle.pages.specs.declared.Cost.{Cost}
 use lib.Seq.{take-append-le, drop-append-le, drop-append-add}
 use Rattle.pages.proofs.page_runs.Goals as goal

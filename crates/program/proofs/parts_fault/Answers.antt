@@ -1,7 +1,8 @@
 -- `program::parts_fault` meets its contract: the fault of the first part that has one.
 -- By what the parts from the one in hand on give. Assumes nothing.
 use Rattle.std.proofs.Common.{arith, refl}
-use Rattle.program.specs.Lemmas.Arms.{part_stop, part-on, parts_end}
+use Rattle.program.specs.Lemmas.Arms.{parts_end}
+use Rattle.program.proofs.Lemmas.Arms.{part_stop, part-on}
 use Rattle.program.proofs.parts_fault.Goals as goal
 
 pub returns-in-At : goal.returns-in-At

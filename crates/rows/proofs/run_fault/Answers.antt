@@ -1,6 +1,6 @@
 -- `rows::run_fault` meets its contract: the place of the first number that breaks the rule.
 -- By the laws of a search: the numbers below j are passed. Assumes nothing.
-use Rattle.laws.specs.Lemmas.Search.{searched_found, searched_more, searched_all}
+use Rattle.laws.proofs.Lemmas.Search.{searched_found, searched_more, searched_all}
 use Rattle.rows.specs.Lemmas.Arms.{run_stop, run_clean}
 use Rattle.rows.proofs.run_fault.Goals as goal
 

@@ -1,18 +1,14 @@
 -- What each arm of the code shows of `legal`, `breaks` and a run's or table's fault.
 -- By the tests that led there; a table's loop by what the rows from row i on give. Assumes nothing.
-use Rattle.std.specs.Prelude.{◌≡◌, Bool, true, false, not, List, leb, eqb, get_or, take, drop}
+use Rattle.std.specs.Prelude.{◌≡◌, Bool, true, false, not, List, leb, eqb, take, drop}
 use Rattle.std.proofs.Math.Path.{refl, sym, ap}
 use Rattle.std.proofs.Common.{◌∙◌}
-use Prim.Native.Nat.{ℕ, suc, ◌+◌, ◌-◌, ◌*◌, ◌≤◌, ◌<◌}
-use Rattle.std.proofs.Math.Numerals.{add-one}
+use Prim.Native.Nat.{ℕ, ◌+◌, ◌-◌, ◌*◌, ◌≤◌, ◌<◌}
 use native.Mathlib.Omega.{arith}
-use Rattle.std.proofs.Math.ListN.{length}
-use Rattle.std.proofs.Math.Seq.{drop-cons}
 use borrow.Author.Tests.{le-leb, lt-leb, eq-eqb, ne_eqb}
 use Rattle.laws.specs.Scan.{lowest}
 use Rattle.laws.specs.Lemmas.Scan.{lowest_stop, lowest-on, lowest_end}
 use Rattle.laws.specs.Reader.{bytes}
-use Rattle.laws.specs.declared.Lowest.{Lowest}
 use Rattle.laws.specs.declared.Lowest.TheVariants.{At, Nowhere}
 use Rattle.blocks.specs.Numbers.{number, top, Number}
 use Rattle.blocks.specs.Lemmas.Numbers.{number_next}
@@ -23,7 +19,7 @@ use Rattle.rows.specs.declared.Rule.TheVariants.{From, Within, OrOff, OneOf, AtM
 use Rattle.rows.specs.declared.Row.{Row}
 use Rattle.rows.specs.declared.Row.TheVariants.{Only}
 use Rattle.rows.specs.declared.Run.{Run}
-use Rattle.rows.specs.Rows.{size_of, byte_run, legal, Read, keeps, breaks, place_of, placed, run_fault, row_fault, or_else, rows_fault}
+use Rattle.rows.specs.Rows.{size_of, byte_run, legal, Read, keeps, breaks, place_of, placed, run_fault, rows_fault}
 
 -- ---- a number
 
@@ -128,28 +124,6 @@ abbrev pub RestOf : List ℕ → ℕ → List Row → ℕ → ℕ → ℕ → Ty
 RestOf header base rows first end i = rows_fault header base (take (end - i) (drop i rows)) ≡ rows_fault header base (take (end - first) (drop first rows))
 
 module _ (header : List ℕ) (base : ℕ) (rows : List Row) (first end i : ℕ) where
-  rest_row : {row : Row} {f : Lowest} → i < end → end ≤ length rows → row ≡ get_or rows i no_row → f ≡ row_fault header base row
-      → rows_fault header base (take (end - i) (drop i rows)) ≡ or_else f (rows_fault header base (take (end - (i + 1)) (drop (i + 1) rows)))
-  unfolding rows_fault
-  rest_row h l e k =
-      let s : end - i ≡ suc (end - (i + 1)) = omega arith in
-      let m : i < length rows = omega arith in
-      rw (s, drop-cons rows i no_row m, add-one i, k, e, rows_fault) refl
-
-  -- the rest of the table is known once the row in hand is
-  rest_by : {row : Row} {f g : Lowest} → RestOf header base rows first end i → i < end → end ≤ length rows → row ≡ get_or rows i no_row
-      → f ≡ row_fault header base row → f ≡ g
-      → or_else g (rows_fault header base (take (end - (i + 1)) (drop (i + 1) rows))) ≡ rows_fault header base (take (end - first) (drop first rows))
-  rest_by v h l e k t = sym (ap (λ (x : Lowest). or_else x (rows_fault header base (take (end - (i + 1)) (drop (i + 1) rows)))) t) ∙ sym (rest_row h l e k) ∙ v
-
-  pub rows_stop : {row : Row} {f : Lowest} {place : ℕ} → RestOf header base rows first end i → i < end → end ≤ length rows → row ≡ get_or rows i no_row
-      → f ≡ row_fault header base row → f ≡ At place → At place ≡ rows_fault header base (take (end - first) (drop first rows))
-  rows_stop v h l e k t = rest_by v h l e k t
-
-  pub rows_on : {row : Row} {f : Lowest} → RestOf header base rows first end i → i < end → end ≤ length rows → row ≡ get_or rows i no_row
-      → f ≡ row_fault header base row → f ≡ Nowhere → RestOf header base rows first end (i + 1)
-  rows_on v h l e k t = rest_by v h l e k t
-
   pub rows_clean : RestOf header base rows first end i → end ≤ i → Nowhere ≡ rows_fault header base (take (end - first) (drop first rows))
   unfolding rows_fault
   rows_clean v h = let e : end - i ≡ 0 = omega arith in rw e at v

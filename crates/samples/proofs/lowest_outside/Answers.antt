@@ -1,7 +1,7 @@
 -- `samples::lowest_outside` meets its contract: the words before the one in hand are held, so the first that is not is the lowest.
 -- A search for the lowest place. Assumes nothing.
 use Rattle.std.proofs.Common.{not, ap, ◌∙◌, pos, get_or, FitsSigned, w16, rules}
-use Rattle.laws.specs.Lemmas.Search.{searched_found, searched_more, searched_all}
+use Rattle.laws.proofs.Lemmas.Search.{searched_found, searched_more, searched_all}
 use Rattle.words.specs.Words.{holds}
 use Rattle.words.specs.Lemmas.Signed.{read_back}
 use Rattle.samples.specs.Samples.{is_outside}

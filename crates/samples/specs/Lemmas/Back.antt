@@ -15,7 +15,8 @@ use Rattle.blocks.specs.Lemmas.Numbers.{length_digits, number_is}
 use Rattle.words.specs.Words.{parts, word_of, holds, bits_at, packed900, unpacked900}
 use Rattle.words.specs.Lemmas.Parts.{length-parts, get_or-parts, parts_cong, parts_pairs}
 use Rattle.words.specs.Lemmas.Back.{bits_small, words_again, bits_again, held_again}
-use Rattle.words.specs.Lemmas.Back900.{length900, unpack900, words_long, held900, pack900}
+use Rattle.words.specs.Lemmas.Back900.{length900, words_long, held900}
+use Rattle.words.proofs.Lemmas.Back900.{unpack900, pack900}
 use Rattle.samples.specs.declared.Sampler.{Sampler}
 use Rattle.samples.specs.declared.Sampler.TheVariants.{S900, S1000}
 use Rattle.samples.specs.Samples.{data_size, is_whole, packed1000, unpacked1000, packed, unpacked, bits_size, Held, Bytes}

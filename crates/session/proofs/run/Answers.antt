@@ -1,11 +1,9 @@
 -- `session::run` meets its contract: what remains of the script, run on what there is, comes to what the whole comes to.
 -- Each turn takes one entry off the front (`run_more`) or ends (`run_stop`); lent parts come back as splices. Assumes nothing.
 use Rattle.std.proofs.Common.{refl, sym, ap, ◌∙◌, List, ℕ, ◌+◌, ◌*◌, ◌/◌, ◌≤◌, arith, length, min}
-use Rattle.std.proofs.lemmas.Bool.{not-false}
 use Rattle.laws.specs.Lemmas.Splice.{length-splice, lent_back, length-lent}
 use Rattle.session.specs.Lemmas.Entries.{run-start, run_more, run_stop, run_end, part-fits}
 use Rattle.session.specs.Script.{run_from, after_run}
-use borrow.Author.Tests.{not-true}
 use Rattle.session.proofs.run.Goals as goal
 
 pub loop-k-init : goal.loop-k-init

@@ -1,13 +1,11 @@
 -- `session::run_entry` meets its contract: list and page, or a call whose name lies in the pool; any other is no call.
 -- By the tests on the number and on the name's place, in the definition's order. Assumes nothing.
 use Rattle.std.proofs.Common.{sym, ap, ◌∙◌}
-use Rattle.std.proofs.lemmas.Bool.{not-false}
 use Rattle.laws.specs.Splice.{part}
 use Rattle.std.proofs.Math.Option.{Option}
 use Rattle.record.specs.Record.{Call}
 use Rattle.session.specs.Lemmas.Entries.{made_as, ended_as, fits_end, entry_list, entry-page, entry_none, entry_named}
 use Rattle.session.specs.Script.{entered_by}
-use borrow.Author.Tests.{not-true}
 use Rattle.session.proofs.run_entry.Goals as goal
 
 pub returns-then-op-eq0 : goal.returns-then-op-eq0

@@ -1,9 +1,7 @@
 -- `session::run_put` meets its contract: a content that lies in the pool is put, any other is no call.
 -- By the test on the content's place. Assumes nothing.
 use Rattle.std.proofs.Common.{sym, ◌∙◌}
-use Rattle.std.proofs.lemmas.Bool.{not-false}
 use Rattle.session.specs.Lemmas.Entries.{fits_end, made_as, ended_as, put_some, put_none}
-use borrow.Author.Tests.{not-true}
 use Rattle.session.proofs.run_put.Goals as goal
 
 pub returns-then-not-is_in : goal.returns-then-not-is_in

@@ -2,7 +2,7 @@
 -- What the check ensures, and the check as a call (`check_call`). Assumes nothing.
 use Rattle.std.proofs.Common.{◌∙◌, sym, ap}
 use Rattle.rules.specs.Check.{answer_of}
-use Rattle.rules.specs.Demand.{check_call}
+use Rattle.rules.proofs.Demand.{check_call}
 use Rattle.rules.specs.declared.Checked.{Checked}
 use Rattle.skilletjay.specs.Results.{checked_result}
 use Rattle.skilletjay.specs.Told.{checked}

@@ -1,10 +1,11 @@
 -- `slots::count_formed` meets its contract: the lowest malformed slot of those left is that of all, and the slots counted and those of the rest are all used ones.
 -- One search, by its laws; each slot passed is used, and counted, or it isn't. Assumes nothing.
 use Rattle.slots.proofs.count_formed.Invariants.{is_used}
-use Rattle.std.proofs.Common.{◌≡◌, sym, ap, ap₂, ◌∙◌, ⊎_elim, ◌-◌, arith}
+use Rattle.std.proofs.Common.{◌≡◌, sym, ap, ap₂, ◌∙◌, ◌-◌, arith}
 use Rattle.image.specs.Image.{view_of}
 use Rattle.laws.specs.Lemmas.Scan.{count_end, count_stop, count-on}
-use Rattle.laws.specs.Lemmas.Search.{searched_none, searched_found, searched_more, searched_all}
+use Rattle.laws.specs.Lemmas.Search.{searched_none}
+use Rattle.laws.proofs.Lemmas.Search.{searched_found, searched_more, searched_all}
 use Rattle.laws.specs.Reader.{bytes}
 use Rattle.laws.specs.Scan.{count}
 use Rattle.laws.specs.declared.Lowest.{Lowest}

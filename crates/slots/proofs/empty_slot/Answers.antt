@@ -1,7 +1,8 @@
 -- `slots::empty_slot` meets its contract: the lowest empty slot of those left is that of all.
 -- One search, by its laws. Assumes nothing.
 use Rattle.std.proofs.Common.{ap, not, arith}
-use Rattle.laws.specs.Lemmas.Search.{searched_none, searched_found, searched_more, searched_all}
+use Rattle.laws.specs.Lemmas.Search.{searched_none}
+use Rattle.laws.proofs.Lemmas.Search.{searched_found, searched_more, searched_all}
 use Rattle.slots.proofs.empty_slot.Goals as goal
 
 pub loop-slot-init : goal.loop-slot-init

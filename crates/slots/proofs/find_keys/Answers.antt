@@ -1,8 +1,8 @@
 -- `slots::find_keys` meets its contract: the lowest slot with the keys and the type of those left is that of all.
 -- One search, by its laws. Assumes nothing.
 use Rattle.std.proofs.Common.{arith}
-use Rattle.laws.specs.Lemmas.Search.{searched_none, searched_found, searched_more, searched_all}
-use Rattle.slots.specs.Keys.{has_keys}
+use Rattle.laws.specs.Lemmas.Search.{searched_none}
+use Rattle.laws.proofs.Lemmas.Search.{searched_found, searched_more, searched_all}
 use Rattle.slots.proofs.find_keys.Goals as goal
 
 pub loop-slot-init : goal.loop-slot-init

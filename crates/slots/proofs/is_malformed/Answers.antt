@@ -1,9 +1,9 @@
 -- `slots::is_malformed` meets its contract: a type, a length or an identity that is not legal decides alone; past them the name's area does.
 -- By what each call answers of its part of the entry. Assumes nothing.
 use Rattle.std.proofs.Common.{◌≡◌, refl, sym, ap, ◌∙◌, true, false, not, List, ℕ, ◌+◌, ◌-◌, ◌≤◌, arith, length, take, drop, eq-eqb, le-leb}
-use Rattle.std.proofs.lemmas.Bool.{lt-leb, not-false}
+use Rattle.std.proofs.lemmas.Bool.{lt-leb}
 use Rattle.image.specs.Image.{entry_at, view_of}
-use Rattle.laws.specs.Lemmas.Reader.{tab-part}
+use Rattle.laws.proofs.Lemmas.Reader.{tab-part}
 use Rattle.laws.specs.Lemmas.Splice.{length-lent}
 use Rattle.laws.specs.Lemmas.Truth.{false_both, false_if}
 use Rattle.laws.specs.Reader.{bytes, tab}
@@ -15,7 +15,6 @@ use Rattle.slots.specs.Lemmas.Keys.{both_when}
 use Rattle.view.specs.Disk.{View, used, formed}
 use Rattle.view.specs.Lemmas.Formed.{formed-parts}
 use Rattle.view.specs.Rules.{malformed}
-use borrow.Author.Tests.{not-true}
 use Rattle.slots.proofs.is_malformed.Goals as goal
 
 module _ (l : Layout) (v : View) (s : ℕ) (u : used (v.entry s) ≡ true) where

@@ -3,7 +3,8 @@
 use Rattle.std.proofs.Common.{ℕ, arith, rules}
 use Rattle.std.proofs.lemmas.List.{length-replicate}
 use Rattle.laws.specs.Lemmas.Padded.{get_or_zeros}
-use Rattle.laws.specs.Lemmas.Search.{searched_none, searched_found, searched_more, searched_all}
+use Rattle.laws.specs.Lemmas.Search.{searched_none}
+use Rattle.laws.proofs.Lemmas.Search.{searched_found, searched_more, searched_all}
 use Rattle.slots.specs.Lemmas.Hashes.{tops_none, lowers_none}
 use Rattle.slots.proofs.name_fault.Goals as goal
 

@@ -1,11 +1,9 @@
 -- `slots::repeats` meets its contract: an empty slot repeats no file's name and type; of a used one the slots with its hash decide, and then it is the highest of them.
 -- What the table holds at the slot's hash is the highest slot below with it. Assumes nothing.
-use Rattle.std.proofs.Common.{sym, ap, ◌∙◌, true, ℕ}
-use Rattle.std.proofs.lemmas.Bool.{not-false}
+use Rattle.std.proofs.Common.{sym, ap, ◌∙◌, ℕ}
 use Rattle.laws.specs.Reader.{bytes}
 use Rattle.slots.specs.Hashes.{has_hash, highest}
 use Rattle.slots.specs.Lemmas.Hashes.{tops_same, lowers_same, tops_more, lowers_more, empty_new, used-repeated}
-use borrow.Author.Tests.{not-true}
 use Rattle.slots.proofs.repeats.Goals as goal
 
 pub returns-then-not-is_used : goal.returns-then-not-is_used

@@ -19,7 +19,8 @@ use Rattle.rules.specs.declared.Checked.{Checked}
 use Rattle.rules.specs.declared.Checked.TheVariants.{Accepted, Refused}
 use Rattle.rules.specs.declared.Known.TheVariants.{Disk, Unknown}
 use Rattle.rules.specs.Check.{known_of, check_of, lent, came, salvage_of, unaccepted, call_of}
-use Rattle.rules.specs.Salvage.{salvage_refuses, salvage_unknown, salvage_short}
+use Rattle.rules.specs.Salvage.{salvage_unknown, salvage_short}
+use Rattle.rules.proofs.Salvage.{salvage_refuses}
 
 -- two refusals of one answer; an answer without one
 same_refusal : (out img : List ℕ) (q r : Refusal) → some q ≡ some r → came (refused_by q) out img ≡ came (refused_by r) out img

@@ -13,9 +13,10 @@ use Rattle.layout.specs.declared.Kind.{Kind}
 use Rattle.layout.specs.declared.Density.{Density}
 use Rattle.layout.specs.declared.Layout.{Layout}
 use Rattle.layout.specs.Layouts.{layout_of, slot_offset}
-use Rattle.layout.specs.Right.{layout_right}
+use Rattle.layout.proofs.Right.{layout_right}
 use Rattle.names.specs.Names.{legal_name, legal_area, legal_type, name_of, area_of, capitals}
-use Rattle.names.specs.NameLaws.{area_back, name-legal, name-capitals, capitals-legal}
+use Rattle.names.specs.NameLaws.{area_back, name-legal}
+use Rattle.names.proofs.NameLaws.{name-capitals, capitals-legal}
 use Rattle.view.specs.Disk.{File, file_of}
 use Rattle.view.specs.Lemmas.Kept.{file_at_is}
 use Rattle.view.specs.Lemmas.Formed.{formed-parts}
@@ -26,12 +27,15 @@ use Rattle.record.specs.declared.Judged.{Judged}
 use Rattle.record.specs.declared.Judged.TheVariants.{Refuse, Grant}
 use Rattle.record.specs.Order.{order_found, order_taken}
 use Rattle.record.specs.Step.{image_after, step_image}
-use Rattle.record.specs.Spelling.{in_capitals, image_spelled}
-use Rattle.record.specs.Types.{Apart, slot_held}
+use Rattle.record.specs.Spelling.{in_capitals}
+use Rattle.record.proofs.Spelling.{image_spelled}
+use Rattle.record.specs.Types.{Apart}
+use Rattle.record.proofs.Types.{slot_held}
 use Rattle.rules.specs.declared.Checked.TheVariants.{Accepted}
 use Rattle.rules.specs.Check.{check_of, came, call_of}
-use Rattle.rules.specs.Accepted.{accepted-rules}
-use Rattle.rules.specs.Demand.{call_is, files-after, slot_inside, file-used}
+use Rattle.rules.proofs.Accepted.{accepted-rules}
+use Rattle.rules.specs.Demand.{slot_inside, file-used}
+use Rattle.rules.proofs.Demand.{call_is, files-after}
 
 -- the name of a slot's file, and its type
 abbrev name_or : Option File → List ℕ

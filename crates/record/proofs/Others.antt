@@ -11,7 +11,8 @@ use Rattle.view.specs.Disk.{File}
 use Rattle.record.specs.Record.{Shape, Files, Call, check, list, find, page, put, remove, salvage, is_named, named, Removes, is_empty, replaced, slot_of, empty_slot, judge_name, judge_put, step_files}
 use Rattle.record.specs.declared.Judged.{Judged}
 use Rattle.record.specs.declared.Judged.TheVariants.{Refuse, Grant}
-use Rattle.record.specs.Lemmas.Granted.{granted_name, granted_put}
+use Rattle.record.specs.Lemmas.Granted.{granted_name}
+use Rattle.record.proofs.Lemmas.Granted.{granted_put}
 use Rattle.record.specs.Step.{Reading, reads_check, reads_list, reads_find, reads-page, reads_salvage}
 use Rattle.record.specs.Lemmas.Step.{reading_keeps}
 

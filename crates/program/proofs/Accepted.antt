@@ -14,7 +14,8 @@ use Rattle.laws.specs.declared.Lowest.{Lowest}
 use Rattle.laws.specs.declared.Refusal.{Refusal}
 use Rattle.laws.specs.declared.Lowest.TheVariants.{At, Nowhere}
 use Rattle.rows.specs.Rows.{or_else}
-use Rattle.rows.specs.Failing.{Least, in_order, failing_in, lowest_failing, faultless, kept_nowhere, never, none_of}
+use Rattle.rows.specs.Failing.{Least, in_order, failing_in, lowest_failing, kept_nowhere, never, none_of}
+use Rattle.rows.proofs.Failing.{faultless}
 use Rattle.headers.specs.declared.Table.TheVariants.{Program, Keygroup}
 use Rattle.laws.specs.declared.Counted.TheVariants.{Done, Refused}
 use Rattle.headers.specs.Tables.{rows_of}

@@ -19,7 +19,8 @@ use Rattle.layout.specs.Right.{LayoutRight}
 use Rattle.blocks.specs.Blocks.{links_for}
 use Rattle.map.specs.Map.{Walk, is_whole, fault_of}
 use Rattle.map.specs.Lemmas.Chains.{chain_cong, chain_data}
-use Rattle.map.specs.Lemmas.Walks.{walk_cong, walk_chained, whole_is}
+use Rattle.map.specs.Lemmas.Walks.{walk_cong, whole_is}
+use Rattle.map.proofs.Lemmas.Walks.{walk_chained}
 use Rattle.view.specs.declared.Ruled.{Ruled}
 use Rattle.view.specs.declared.Ruled.TheVariants.{Pass}
 use Rattle.view.specs.Disk.{View, used, entry_chain, chain_of, owned}

@@ -1,0 +1,4 @@
+-- Lemmas that only proofs use.
+pub mod Collect
+pub mod Linking
+pub mod Walks

@@ -1,0 +1,4 @@
+-- Lemmas that only proofs use.
+pub mod Granted
+pub mod Step
+pub mod Update

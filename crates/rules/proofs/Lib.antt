@@ -1,0 +1,13 @@
+pub mod Accepted
+pub mod Demand
+pub mod Exactly
+pub mod Head
+pub mod Mark
+pub mod Outside
+pub mod Refused
+pub mod Salvage
+pub mod Second
+pub mod Small
+pub mod Spelling
+pub mod Types
+pub mod Unread

@@ -1,0 +1,5 @@
+-- Lemmas that only proofs use.
+pub mod Counting
+pub mod Head
+pub mod Put
+pub mod Remove
