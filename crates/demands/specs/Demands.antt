@@ -112,11 +112,12 @@ use Rattle.program.specs.Program.{program_of, Sized, ProgramRules, Fails}
 use Rattle.program.proofs.Accepted as programs
 use Rattle.listing.specs.Listing.{listing_of}
 use Rattle.listing.specs.Lines.{lines_of}
-use Rattle.listing.specs.Lines as listings
+use Rattle.listing.proofs.LineLaws as listings
 use Rattle.table.specs.Table.{rows, All}
-use Rattle.table.specs.Table as table
+use Rattle.table.proofs.Table as table
 use Rattle.skilletjay.specs.Told.{CTurn, told_of, refused_turn, turn_in, CRan, turns_in}
 use Rattle.skilletjay.specs.Sequence as sequence
+use Rattle.skilletjay.proofs.Sequence as sequence_proved
 use Rattle.skilletjay.specs.Counted.{Counting, lent_to, counting_of}
 use Rattle.skilletjay.specs.Counted as counting
 
@@ -247,7 +248,7 @@ record_kept = demand.demand_3
 -- The same of C's functions, from their results alone.
 pub record_kept_c : (k : Kind) (d : Density) (f n : ℕ) (img : List ℕ) → check_of img ≡ Accepted k d f n → (ts : List CTurn) → CRan (layout_of k d) img ts
     → Behaves k d img (files_in (layout_of k d) img) (turns_in (layout_of k d) img ts)
-record_kept_c = sequence.demand_3_c
+record_kept_c = sequence_proved.demand_3_c
 
 -- The same of a script of calls that C lends whole.
 pub record_kept_script : (k : Kind) (d : Density) (f n : ℕ) (img script pool out : List ℕ) → check_of img ≡ Accepted k d f n
@@ -270,7 +271,7 @@ label_kept = outside.label_kept
 
 pub result_tells : (k : Kind) (d : Density) (f n : ℕ) (img : List ℕ) → check_of img ≡ Accepted k d f n → (t : CTurn)
     → let u = turn_in (layout_of k d) img t in t ≡ told_of img u.call → Made img u.call u.answer u.output u.after
-result_tells = sequence.told_made
+result_tells = sequence_proved.told_made
 
 -- On a refusal, whatever the image: its number and place, 0 in every other field, and all that was lent as it was.
 pub result_refused : (img : List ℕ) (c : Call) (r : Refusal) → (call_of img c).answer.refusal ≡ some r → told_of img c ≡ refused_turn img c r

@@ -1,10 +1,10 @@
 -- The listing where only an image's head and its length are at hand, and that it is the image's.
 -- The check reads no more than these, and a slot of an accepted image lies in the head. Assumes nothing.
-use Rattle.std.specs.Prelude.{◌≡◌, Bool, List, [], ◌++◌, ℕ, zero, suc, ◌+◌, ◌-◌, ◌≤◌, ◌<◌, min, ltb, drop}
+use Rattle.std.specs.Prelude.{◌≡◌, Bool, List, [], ◌++◌, ℕ, zero, suc, ◌+◌, ◌-◌, ◌≤◌, ◌<◌, ltb, drop}
 use Rattle.std.proofs.Math.Path.{refl, ap}
-use Rattle.std.proofs.Common.{sym, ◌∙◌, append-nil, arith, length-take, take-take, ltb-true, ltb-false, lt-ltb, le-ltb}
+use Rattle.std.proofs.Common.{sym, ◌∙◌, append-nil, arith, ltb-true, ltb-false, lt-ltb, le-ltb}
 use Rattle.std.proofs.Math.Bool.{true, false}
-use Rattle.std.proofs.Math.Decide.{dec_lt, ℕ_discrete}
+use Rattle.std.proofs.Math.Decide.{ℕ_discrete}
 use Rattle.std.proofs.Math.Nat.{sub-zero}
 use Rattle.std.proofs.Math.ListN.{length, take}
 use Rattle.laws.specs.declared.Refusal.{Refusal}
@@ -23,20 +23,14 @@ use Rattle.layout.proofs.Right.{layout_right}
 use Rattle.names.specs.Names.{name_of}
 use Rattle.names.specs.NameLaws.{length-name}
 use Rattle.view.specs.Disk.{used}
-use Rattle.image.specs.Image.{entry_at, view_of, files_in}
-use Rattle.record.specs.Record.{Answer, Outcome, check, list, entry, refused, refused_by, file_at, listing}
+use Rattle.image.specs.Image.{entry_at, view_of}
+use Rattle.record.specs.Record.{Answer, entry, refused, refused_by}
 use Rattle.rules.specs.declared.Checked.{Checked}
 use Rattle.rules.specs.declared.Checked.TheVariants.{Accepted, Refused}
-use Rattle.rules.proofs.Accepted.{accepted-rules}
-use Rattle.rules.specs.Check.{check_of, check_start, answer_of, call_of}
-use Rattle.rules.proofs.Demand.{check_call}
-use Rattle.rules.specs.Head.{read_head, head_agree, same-entry}
-use Rattle.rules.proofs.Head.{start_check}
+use Rattle.rules.specs.Check.{check_start, answer_of}
 use Rattle.disk.specs.Lemmas.Steps.{start_short, start_unknown, made_right, directory_held}
-use Rattle.calls.specs.Lemmas.Done.{list_done}
 use Rattle.calls.specs.Lemmas.Listing.{lent-area}
-use Rattle.calls.specs.Lemmas.Slots.{file_empty, file-used, file-length}
-use Rattle.listing.specs.Listing.{ascii, or_refused, check_text, slot_line, slot_lines, end_line, listing_of}
+use Rattle.listing.specs.Listing.{ascii, check_text, slot_line, slot_lines, end_line, listing_of}
 
 -- List's answer for a slot of the head.
 unfoldable pub slot_answer : Layout → (ℕ → ℕ) → ℕ → Answer
@@ -55,7 +49,7 @@ unfolding listing_of check_start slot_answer
 lines_of head size = listing_of (answer_of (check_start head size)) (slot_by (check_start head size) (bytes head))
 
 -- answers that agree on these are listed alike
-slots_cong : (f g : ℕ → Answer) (n : ℕ) → ((s : ℕ) → s < n → f s ≡ g s) → slot_lines f n ≡ slot_lines g n
+pub slots_cong : (f g : ℕ → Answer) (n : ℕ) → ((s : ℕ) → s < n → f s ≡ g s) → slot_lines f n ≡ slot_lines g n
 unfolding slot_lines
 slots_cong f g zero h = refl
 slots_cong f g (suc n) h = rw (slots_cong f g n (λ s p. h s (omega arith)), h n (omega arith)) refl
@@ -118,50 +112,3 @@ module _ (l : Layout) (head : List ℕ) (s : ℕ) {u : Bool} (asked : u ≡ used
       let long : length given ≡ l.letters = length-name l right (tab (bytes head) at 16) (length-tab (bytes head) at 16) in
       let front : take l.letters (padded given 12) ≡ given = ap (λ (k : ℕ). take k (padded given 12)) (sym long) ∙ take-padded given 12 in
       rw (sym asked ∙ e, sub-zero, n, lent-area head at (omega arith), front, t, z) refl
-
--- ---- the image's listing
-
-listing_cong : (a : Answer) (f g : ℕ → Answer) → ((s : ℕ) → s < 512 → f s ≡ g s) → listing_of a f ≡ listing_of a g
-unfolding listing_of
-listing_cong a f g h = ap (λ (lines : List ℕ). check_text a ++ ascii "\n" ++ or_refused a.refusal (λ r. []) (lines ++ end_line a.value)) (slots_cong f g 512 h)
-
-module _ (head img : List ℕ) (enough : min (length img) head_length ≤ length head) (same : take head_length head ≡ take head_length img) where
-  module _ {k : Kind} {d : Density} {f n : ℕ} (yes : check_of img ≡ Accepted k d f n) (s : ℕ) (h : s < (layout_of k d).slots) where
-    abbrev l : Layout
-    l = layout_of k d
-
-    slot_by_is : (u : Bool) → used ((view_of l (bytes img)).entry s) ≡ u → slot_answer l (bytes img) s ≡ (listing img (file_at l (files_in l img) s)).answer
-    unfolding slot_answer
-    slot_by_is false e = rw (e, file_empty l img s h e) refl
-    slot_by_is true e = rw (e, file-used l img s h e, file-length l img s (layout_right k d) (accepted-rules k d f n img yes) h e) refl
-
-    slot_same : slot_answer l (bytes head) s ≡ (call_of img (list s)).answer
-    unfolding slot_answer
-    slot_same =
-        rw (same-entry (bytes img) (bytes head) l (layout_right k d) (λ i r. head_agree img head same i (read_head k d i r)) s h)
-        (slot_by_is (used ((view_of l (bytes img)).entry s)) refl ∙ ap (λ (o : Outcome (List ℕ)). o.answer) (list_done img refl yes refl s))
-
-  slot_out : {k : Kind} {d : Density} {f n : ℕ} → check_of img ≡ Accepted k d f n → (s : ℕ) → (layout_of k d).slots ≤ s → (call_of img (list s)).answer ≡ refused 10 0
-  unfolding file_at
-  slot_out {k} {d} accept s h = ap (λ (o : Outcome (List ℕ)). o.answer) (sym (list_done img refl accept refl s)) ∙ rw (le-ltb s (layout_of k d).slots h) refl
-
-  slot_asked : {k : Kind} {d : Density} {f n : ℕ} → check_of img ≡ Accepted k d f n → (s : ℕ) → slot_by (Accepted k d f n) (bytes head) s ≡ (call_of img (list s)).answer
-  slot_asked {k} {d} {f} {n} accept s = go (dec_lt s (layout_of k d).slots)
-    where
-      go : Dec (s < (layout_of k d).slots) → slot_by (Accepted k d f n) (bytes head) s ≡ (call_of img (list s)).answer
-      go (yes h) = rw (lt-ltb s (layout_of k d).slots h) (slot_same accept s h)
-      go (no h) = rw (le-ltb s (layout_of k d).slots (omega arith)) (sym (slot_out accept s (omega arith)))
-
-  -- A head that has the image's first 17,408 bytes, or all of them, gives the lines of the check's and list's answers.
-  pub lines_are : lines_of head (length img) ≡ listing_of (call_of img check).answer (λ s. (call_of img (list s)).answer)
-  unfolding lines_of
-  lines_are = rw (start_check head img enough same, check_call img) (go (check_of img) refl)
-    where
-      go : (c : Checked) → check_of img ≡ c → listing_of (answer_of c) (slot_by c (bytes head)) ≡ listing_of (answer_of c) (λ s. (call_of img (list s)).answer)
-      go (Refused r) e = refl
-      go (Accepted k d f n) e =
-          listing_cong (answer_of (Accepted k d f n)) (slot_by (Accepted k d f n) (bytes head)) (λ s. (call_of img (list s)).answer) (λ s h. slot_asked e s)
-
--- The listing program's head: the first 17,408 bytes.
-pub lines_of_is : (img : List ℕ) → lines_of (take head_length img) (length img) ≡ listing_of (call_of img check).answer (λ s. (call_of img (list s)).answer)
-lines_of_is img = lines_are (take head_length img) img (omega (arith, length-take head_length img)) (take-take head_length head_length img (omega arith))

@@ -3,7 +3,8 @@
 use Rattle.std.proofs.Common.{sym, ◌∙◌, arith}
 use Rattle.calls.specs.Lemmas.Paging.{size_some, slot_chained}
 use Rattle.changes.specs.Lemmas.Lent.{count_fits, lent-all}
-use Rattle.locate.specs.Lemmas.Locate.{blocks_above, blocks_empty, blocks_short, blocks_all}
+use Rattle.locate.specs.Lemmas.Locate.{blocks_above, blocks_empty, blocks_short}
+use Rattle.locate.proofs.Lemmas.Locate.{blocks_all}
 use Rattle.locate.proofs.slot_blocks.Goals as goal
 
 pub returns-then-slots-slot : goal.returns-then-slots-slot

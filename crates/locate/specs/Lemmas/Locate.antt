@@ -4,9 +4,8 @@ use Rattle.std.specs.Prelude.{◌≡◌, true, false, List, [], ◌∷◌, ℕ, 
 use Rattle.std.proofs.Math.Path.{refl}
 use Rattle.std.proofs.Common.{arith, lt-ltb, le-ltb}
 use Rattle.laws.specs.declared.Refusal.{Refusal}
-use Rattle.laws.specs.declared.Counted.TheVariants.{Done, Refused}
+use Rattle.laws.specs.declared.Counted.TheVariants.{Refused}
 use Rattle.laws.specs.Refusals.{refusal_at, filled}
-use Rattle.laws.specs.Splice.{splice}
 use Rattle.laws.specs.Reader.{bytes}
 use Rattle.layout.specs.declared.Kind.{Kind}
 use Rattle.layout.specs.declared.Density.{Density}
@@ -46,10 +45,6 @@ store_short : (blocks out : List ℕ) → 1 ≤ length blocks → length out < l
 store_short [] out h k = absurd (omega arith)
 store_short (b ∷ bs) out h k = rw (lt-ltb (length out) (length (b ∷ bs)) k) refl
 
-store_all : (blocks out : List ℕ) → 1 ≤ length blocks → length blocks ≤ length out → filled (Done (length blocks)) (splice out 0 blocks) ≡ storing blocks out
-store_all [] out h k = absurd (omega arith)
-store_all (b ∷ bs) out h k = rw (le-ltb (length out) (length (b ∷ bs)) k) refl
-
 -- a used slot, size and start being its entry's, and its chain collected
 module _ (l : Layout) (img : List ℕ) (s : ℕ) (inside : s < l.slots) (here : used ((view_of l (bytes img)).entry s) ≡ true) {size start : ℕ}
     (sized : size ≡ ((view_of l (bytes img)).entry s).size) (starts : start ≡ ((view_of l (bytes img)).entry s).start) where
@@ -58,16 +53,11 @@ module _ (l : Layout) (img : List ℕ) (s : ℕ) (inside : s < l.slots) (here : 
   blocks_are = rw (lt-ltb s l.slots inside, here, sized, starts) refl
 
   module _ (r : collections.Blocks) (collected : Collected (chain (map_at (bytes img)) (links_for size) start) r) (out : List ℕ) where
-    some_block : 1 ≤ length (chain (map_at (bytes img)) (links_for size) start)
+    pub some_block : 1 ≤ length (chain (map_at (bytes img)) (links_for size) start)
     some_block = omega (arith, length-chain (map_at (bytes img)) (links_for size) start)
 
     pub blocks_short : length out < r.count → filled (Refused (refusal_at 21 0)) out ≡ storing (file_blocks l img s) out
     blocks_short h = rw blocks_are (store_short (chain (map_at (bytes img)) (links_for size) start) out some_block (omega (arith, collected.count)))
-
-    pub blocks_all : {lent after : List ℕ} → r.count ≤ length out → lent ≡ chain (map_at (bytes img)) (links_for size) start → after ≡ splice out 0 lent
-        → filled (Done r.count) after ≡ storing (file_blocks l img s) out
-    blocks_all h e t =
-        rw (blocks_are, t, e, collected.count) (store_all (chain (map_at (bytes img)) (links_for size) start) out some_block (omega (arith, collected.count)))
 
 -- ---- by the check's answer
 

@@ -2,7 +2,8 @@
 -- Each turn takes one entry off the front (`run_more`) or ends (`run_stop`); lent parts come back as splices. Assumes nothing.
 use Rattle.std.proofs.Common.{refl, sym, ap, ◌∙◌, List, ℕ, ◌+◌, ◌*◌, ◌/◌, ◌≤◌, arith, length, min}
 use Rattle.laws.specs.Lemmas.Splice.{length-splice, lent_back, length-lent}
-use Rattle.session.specs.Lemmas.Entries.{run-start, run_more, run_stop, run_end, part-fits}
+use Rattle.session.specs.Lemmas.Entries.{run-start, run_end, part-fits}
+use Rattle.session.proofs.Lemmas.Entries.{run_more, run_stop}
 use Rattle.session.specs.Script.{run_from, after_run}
 use Rattle.session.proofs.run.Goals as goal
 

@@ -1,12 +1,10 @@
 -- What an entry comes to, by the tests that the code makes on its bytes.
 -- By the tests in the definition's order. Assumes nothing.
-use Rattle.std.specs.Prelude.{◌≡◌, refl, Bool, true, false, List, [], ℕ, suc, ◌+◌, ◌-◌, ◌*◌, ◌/◌, ◌≤◌, ◌<◌, min, leb, length, get_or, replicate, set, take, drop}
-use Rattle.std.proofs.Common.{sym, ap, ◌∙◌, true≢false, add-one, arith, leb-true, ne_eqb, take-append-drop}
+use Rattle.std.specs.Prelude.{◌≡◌, refl, true, false, List, [], ℕ, ◌+◌, ◌-◌, ◌*◌, ◌/◌, ◌≤◌, ◌<◌, min, leb, length, get_or, replicate, set, take, drop}
+use Rattle.std.proofs.Common.{sym, ap, ◌∙◌, true≢false, arith, leb-true, ne_eqb}
 use Rattle.std.proofs.Math.Option.{Option, none, some}
-use Rattle.laws.specs.Truth.{pick}
 use Rattle.laws.specs.Lemmas.Truth.{both_true}
 use Rattle.laws.specs.Splice.{splice, part}
-use Rattle.laws.specs.Lemmas.Splice.{length_part, lent_back}
 use Rattle.laws.specs.Reader.{bytes}
 use Rattle.blocks.specs.Numbers.{Number, digits}
 use Rattle.laws.specs.Lemmas.Padded.{padded_nil}
@@ -15,7 +13,7 @@ use Rattle.rules.specs.Check.{call_of}
 use Rattle.calls.specs.declared.Listed.{Listed}
 use Rattle.calls.specs.Answers.{listed_of, Lists}
 use Rattle.session.specs.declared.Reply.{Reply}
-use Rattle.session.specs.Script.{fits, put_entry, named_entry, entry_call, flag, reply_with, reply_of, reply_bytes, shown_by, after_entry, Entered, entered_by, entered, after_run, run_from}
+use Rattle.session.specs.Script.{fits, put_entry, named_entry, entry_call, flag, reply_with, reply_of, reply_bytes, shown_by, after_entry, Entered, entered_by, after_run, run_from}
 
 -- what fits ends within
 pub fits_end : (size at n : ℕ) → fits size at n ≡ true → at + n ≤ size
@@ -55,7 +53,7 @@ ended_as img shown e = rw e refl
 -- ---- put
 
 -- a part that is lent from an offset to an end
-lent-part : (pool : List ℕ) (at n : ℕ) → take (at + n - at) (drop at pool) ≡ part pool at n
+pub lent-part : (pool : List ℕ) (at n : ℕ) → take (at + n - at) (drop at pool) ≡ part pool at n
 unfolding part
 lent-part pool at n = let e : at + n - at ≡ n = omega arith in ap (λ k. take k (drop at pool)) e
 
@@ -109,44 +107,9 @@ pub stopped : (img shown : List ℕ) (x : Option Call) {last after : List ℕ} �
 stopped img shown none e = (ap (λ (x : Entered). x.shown) e, ap (λ (x : Entered). x.state) e)
 stopped img shown (some c) e = absurd (true≢false (sym (ap (λ (x : Entered). x.made) e)))
 
-run_next : (script pool : List ℕ) (n k : ℕ) (img out : List ℕ) {e : Entered} → k < n → e ≡ entered img (part script (20 * k) 20) pool (part out (1044 * k) 1044)
-    → run_from script pool (n - k) k img out
-    ≡ pick e.made (run_from script pool (n - (k + 1)) (k + 1) e.state (splice out (1044 * k) e.shown)) (after_run k out img)
-unfolding run_from
-run_next script pool n k img out h e =
-    let s : n - k ≡ suc (n - (k + 1)) = omega arith in
-    rw (s, add-one k, e) refl
-
 -- the k-th part lies in the output
 pub part-fits : (a m k : ℕ) {n : ℕ} → n ≡ min a (m / 1044) → k < n → 1044 * k + 1044 ≤ m
 part-fits a m k e h = omega arith
-
--- a part written back over itself
-own_part : (l : List ℕ) (at n : ℕ) → at + n ≤ length l → splice l at (part l at n) ≡ l
-unfolding part
-own_part l at n h =
-    let w : at + n - at ≡ n = omega arith in
-    sym (lent_back l at (at + n) (take n (drop at l)) (omega arith) h (length_part l at n h ∙ sym w) refl) ∙ rw (w, take-append-drop, take-append-drop) refl
-
--- the entry as the code is lent it: the script's part and the output's part
-lent-entry : (script pool img out : List ℕ) (k : ℕ) {e : Entered} → e ≡ entered img (take (20 * k + 20 - 20 * k) (drop (20 * k) script)) pool (take (1044 * k + 1044 - 1044 * k) (drop (1044 * k) out))
-    → e ≡ entered img (part script (20 * k) 20) pool (part out (1044 * k) 1044)
-lent-entry script pool img out k e = rw (lent-part script (20 * k) 20, lent-part out (1044 * k) 1044) at e
-
--- after a call, and after an entry that is none
-pub run_more : (script pool : List ℕ) (n k : ℕ) (img out : List ℕ) {made : Bool} {last after : List ℕ} → k < n → made ≡ true
-    → after_entry made last after ≡ entered img (take (20 * k + 20 - 20 * k) (drop (20 * k) script)) pool (take (1044 * k + 1044 - 1044 * k) (drop (1044 * k) out))
-    → run_from script pool (n - k) k img out ≡ run_from script pool (n - (k + 1)) (k + 1) after (splice out (1044 * k) last)
-run_more script pool n k img out {last = last} {after = after} h m e =
-    run_next script pool n k img out h (lent-entry script pool img out k (ap (λ (b : Bool). after_entry b last after) (sym m) ∙ e))
-
-pub run_stop : (script pool : List ℕ) (n k : ℕ) (img out : List ℕ) {made : Bool} {last after : List ℕ} → k < n → 1044 * k + 1044 ≤ length out → made ≡ false
-    → after_entry made last after ≡ entered img (take (20 * k + 20 - 20 * k) (drop (20 * k) script)) pool (take (1044 * k + 1044 - 1044 * k) (drop (1044 * k) out))
-    → run_from script pool (n - k) k img out ≡ after_run k (splice out (1044 * k) last) after
-run_stop script pool n k img out {last = last} {after = after} h f m e =
-    let own = lent-entry script pool img out k (ap (λ (b : Bool). after_entry b last after) (sym m) ∙ e) in
-    let kept = stopped img (part out (1044 * k) 1044) (entry_call (part script (20 * k) 20) pool (part (part out (1044 * k) 1044) 20 1024)) own in
-    run_next script pool n k img out h own ∙ rw (kept.0, kept.1, own_part out (1044 * k) 1044 f) refl
 
 pub run_end : (script pool : List ℕ) (n k : ℕ) (img out : List ℕ) → n ≤ k → run_from script pool (n - k) k img out ≡ after_run k out img
 unfolding run_from

@@ -1,0 +1,2 @@
+-- Lemmas that only proofs use.
+pub mod Locate

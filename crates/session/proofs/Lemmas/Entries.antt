@@ -1,0 +1,46 @@
+-- What an entry comes to, by the tests that the code makes on its bytes.
+-- By the tests in the definition's order. Assumes nothing.
+use Rattle.std.specs.Prelude.{◌≡◌, refl, Bool, true, false, List, ℕ, suc, ◌+◌, ◌-◌, ◌*◌, ◌≤◌, ◌<◌, length, take, drop}
+use Rattle.std.proofs.Common.{sym, ap, ◌∙◌, add-one, arith, take-append-drop}
+use Rattle.laws.specs.Truth.{pick}
+use Rattle.laws.specs.Splice.{splice, part}
+use Rattle.laws.specs.Lemmas.Splice.{length_part, lent_back}
+use Rattle.session.specs.Script.{entry_call, after_entry, Entered, entered, after_run, run_from}
+use Rattle.session.specs.Lemmas.Entries.{lent-part, stopped}
+
+-- ---- the entries in a row
+
+run_next : (script pool : List ℕ) (n k : ℕ) (img out : List ℕ) {e : Entered} → k < n → e ≡ entered img (part script (20 * k) 20) pool (part out (1044 * k) 1044)
+    → run_from script pool (n - k) k img out
+    ≡ pick e.made (run_from script pool (n - (k + 1)) (k + 1) e.state (splice out (1044 * k) e.shown)) (after_run k out img)
+unfolding run_from
+run_next script pool n k img out h e =
+    let s : n - k ≡ suc (n - (k + 1)) = omega arith in
+    rw (s, add-one k, e) refl
+
+-- a part written back over itself
+own_part : (l : List ℕ) (at n : ℕ) → at + n ≤ length l → splice l at (part l at n) ≡ l
+unfolding part
+own_part l at n h =
+    let w : at + n - at ≡ n = omega arith in
+    sym (lent_back l at (at + n) (take n (drop at l)) (omega arith) h (length_part l at n h ∙ sym w) refl) ∙ rw (w, take-append-drop, take-append-drop) refl
+
+-- the entry as the code is lent it: the script's part and the output's part
+lent-entry : (script pool img out : List ℕ) (k : ℕ) {e : Entered} → e ≡ entered img (take (20 * k + 20 - 20 * k) (drop (20 * k) script)) pool (take (1044 * k + 1044 - 1044 * k) (drop (1044 * k) out))
+    → e ≡ entered img (part script (20 * k) 20) pool (part out (1044 * k) 1044)
+lent-entry script pool img out k e = rw (lent-part script (20 * k) 20, lent-part out (1044 * k) 1044) at e
+
+-- after a call, and after an entry that is none
+pub run_more : (script pool : List ℕ) (n k : ℕ) (img out : List ℕ) {made : Bool} {last after : List ℕ} → k < n → made ≡ true
+    → after_entry made last after ≡ entered img (take (20 * k + 20 - 20 * k) (drop (20 * k) script)) pool (take (1044 * k + 1044 - 1044 * k) (drop (1044 * k) out))
+    → run_from script pool (n - k) k img out ≡ run_from script pool (n - (k + 1)) (k + 1) after (splice out (1044 * k) last)
+run_more script pool n k img out {last = last} {after = after} h m e =
+    run_next script pool n k img out h (lent-entry script pool img out k (ap (λ (b : Bool). after_entry b last after) (sym m) ∙ e))
+
+pub run_stop : (script pool : List ℕ) (n k : ℕ) (img out : List ℕ) {made : Bool} {last after : List ℕ} → k < n → 1044 * k + 1044 ≤ length out → made ≡ false
+    → after_entry made last after ≡ entered img (take (20 * k + 20 - 20 * k) (drop (20 * k) script)) pool (take (1044 * k + 1044 - 1044 * k) (drop (1044 * k) out))
+    → run_from script pool (n - k) k img out ≡ after_run k (splice out (1044 * k) last) after
+run_stop script pool n k img out {last = last} {after = after} h f m e =
+    let own = lent-entry script pool img out k (ap (λ (b : Bool). after_entry b last after) (sym m) ∙ e) in
+    let kept = stopped img (part out (1044 * k) 1044) (entry_call (part script (20 * k) 20) pool (part (part out (1044 * k) 1044) 20 1024)) own in
+    run_next script pool n k img out h own ∙ rw (kept.0, kept.1, own_part out (1044 * k) 1044 f) refl
