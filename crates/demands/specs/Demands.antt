@@ -99,7 +99,7 @@ use Rattle.pages.specs.Cost.{holds, blocks_holding, no_cost, cost_of}
 use Rattle.calls.specs.Metered.{cost_in}
 use Rattle.calls.specs.Costs as costs
 use Rattle.session.specs.Script.{run_of, entries}
-use Rattle.session.specs.Turns as scripts
+use Rattle.session.proofs.Turns as scripts
 use Rattle.session.specs.Turns.{turns, leave}
 use Rattle.rows.specs.Failing.{Least}
 use Rattle.samples.specs.declared.Sampler.{Sampler}

@@ -1,11 +1,10 @@
 -- What a caller must fetch of an image: what the check reads, which lies in its first 17,408 bytes, for every answer but a page's bytes, and for those the
 -- file's own blocks. Entries and chains agree where directory and map do; a content is read from its chain's blocks alone. Assumes nothing.
-use Rattle.std.specs.Prelude.{◌≡◌, Bool, not, ℕ, ◌-◌, ◌≤◌, ◌<◌, ltb, length, take}
+use Rattle.std.specs.Prelude.{◌≡◌, Bool, not, ℕ, ◌-◌, ◌≤◌, ◌<◌, length, take}
 use Rattle.std.proofs.Math.Path.{refl, ap}
-use Rattle.std.proofs.Common.{sym, ◌∙◌, true≢false, inl, inr, arith, lt-ltb, le-ltb, ltb-false}
+use Rattle.std.proofs.Common.{sym, ◌∙◌, true≢false, inl, inr, arith, lt-ltb, le-ltb}
 use Rattle.std.proofs.Math.Bool.{true, false}
 use mathlib.Core.List.{List, [], ◌∷◌}
-use Rattle.std.proofs.Math.Option.{Option, none, some}
 use Rattle.std.proofs.Math.Decide.{dec_lt}
 use Rattle.laws.specs.declared.Refusal.{Refusal}
 use Rattle.laws.specs.declared.Counted.{Counted}
@@ -13,12 +12,9 @@ use Rattle.laws.specs.declared.Counted.TheVariants.{Done}
 use Rattle.laws.specs.declared.Counted.TheVariants as counted
 use Rattle.laws.specs.Refusals.{refusal_at, Filled}
 use Rattle.laws.specs.Lemmas.Refusals.{refused-done}
-use Rattle.laws.specs.Member.{In}
 use Rattle.laws.specs.Lemmas.Truth.{false_if}
 use Rattle.laws.specs.Lemmas.Scan.{lowest_cong}
 use Rattle.laws.specs.declared.Lowest.{Lowest}
-use Rattle.laws.specs.Splice.{part}
-use Rattle.laws.proofs.Lemmas.Splice.{part-splice}
 use Rattle.laws.specs.Reader.{bytes}
 use Rattle.layout.specs.declared.Kind.{Kind}
 use Rattle.layout.specs.declared.Kind.TheVariants.{S900, S1000, S3000}
@@ -28,13 +24,12 @@ use Rattle.layout.specs.declared.Layout.{Layout}
 use Rattle.layout.specs.Layouts.{layout_of, length_of, head_length, block_offset}
 use Rattle.layout.specs.Right.{LayoutRight}
 use Rattle.layout.proofs.Right.{layout_right}
-use Rattle.blocks.specs.Blocks.{links_for, block_at}
-use Rattle.blocks.specs.Lemmas.Blocks.{read_cong}
+use Rattle.blocks.specs.Blocks.{links_for}
 use Rattle.map.specs.Map.{map_at}
 use Rattle.map.specs.Lemmas.Chains.{length-chain, chain_cong, chain_data, chain_short}
-use Rattle.view.specs.Disk.{File, used, entry_chain, chain_of, content_of, files_of}
+use Rattle.view.specs.Disk.{used, entry_chain, chain_of, files_of}
 use Rattle.image.specs.Image.{view_of, files_in, PassedOver, InUse, DiskRules}
-use Rattle.record.specs.Record.{Call, list, find, page, refused_by, Outcome, named, refuse_if, or_refuse, is_legal, slot_of, file_at, judge_name, listing, paging}
+use Rattle.record.specs.Record.{Call, list, find, refused_by, Outcome, named, refuse_if, or_refuse, is_legal, slot_of, file_at, judge_name, listing}
 use Rattle.record.specs.Lemmas.Step.{list_output}
 use Rattle.record.specs.declared.Judged.{Judged}
 use Rattle.record.specs.declared.Judged.TheVariants.{Grant}
@@ -48,7 +43,7 @@ use Rattle.rules.proofs.Head.{check_reads}
 use Rattle.calls.specs.Answers.{found_of, found_by}
 use Rattle.calls.specs.Lemmas.Answers.{call_refused}
 use Rattle.calls.specs.Lemmas.Slots.{file_above, file_empty, file-used, file-length}
-use Rattle.calls.specs.Lemmas.Done.{list_done, find_done, page-done}
+use Rattle.calls.specs.Lemmas.Done.{list_done, find_done}
 use Rattle.locate.specs.Locate.{file_blocks, storing, blocks_by, blocks_of}
 
 -- y has x's length, and x's bytes wherever the check of x may look: slot 0's type in the first directory, the directory in use, the map.
@@ -98,7 +93,7 @@ pub record Alike (x y : List ℕ) (c : Call) : Type 0 where
   pub output : (call_of y c).output ≡ (call_of x c).output
 
 module _ (x y : List ℕ) (same : SameRead x y) where
-  check_same : check_of y ≡ check_of x
+  pub check_same : check_of y ≡ check_of x
   check_same = check_reads x y same.size same.type same.read
 
   -- ---- accepted images
@@ -122,10 +117,10 @@ module _ (x y : List ℕ) (same : SameRead x y) where
     agree : (i : ℕ) → Read l i → bytes y i ≡ bytes x i
     agree i = same.read k d i (rules_x.size ∙ length_of_is k d) rules_x.kind.in_use
 
-    entry-same : (s : ℕ) → s < l.slots → (view_of l (bytes y)).entry s ≡ (view_of l (bytes x)).entry s
+    pub entry-same : (s : ℕ) → s < l.slots → (view_of l (bytes y)).entry s ≡ (view_of l (bytes x)).entry s
     entry-same = same-entry (bytes x) (bytes y) l right agree
 
-    chain_same : (s : ℕ) → s < l.slots → used ((view_of l (bytes x)).entry s) ≡ true
+    pub chain_same : (s : ℕ) → s < l.slots → used ((view_of l (bytes x)).entry s) ≡ true
         → entry_chain (map_at (bytes y)) ((view_of l (bytes y)).entry s) ≡ entry_chain (map_at (bytes x)) ((view_of l (bytes x)).entry s)
     unfolding entry_chain
     chain_same s h u =
@@ -162,48 +157,11 @@ module _ (x y : List ℕ) (same : SameRead x y) where
         (lowest_cong (λ s. named l name type (files_in l y s)) (λ s. named l name type (files_in l x s)) 0 l.slots
         (λ s p q. named_by name type s (omega arith) (used ((view_of l (bytes x)).entry s)) refl))
 
-    -- a file's content, where y holds the slot's blocks
-    module _ (s : ℕ) (held : (b : ℕ) → In b (file_blocks l x s) → block_at (bytes y) b ≡ block_at (bytes x) b) where
-      content-same : s < l.slots → used ((view_of l (bytes x)).entry s) ≡ true
-          → content_of (view_of l (bytes y)) ((view_of l (bytes y)).entry s) ≡ content_of (view_of l (bytes x)) ((view_of l (bytes x)).entry s)
-      unfolding content_of file_blocks chain_of
-      content-same h u =
-          rw (chain_same s h u, entry-same s h)
-          (ap (take ((view_of l (bytes x)).entry s).size)
-          (read_cong (block_at (bytes x)) (block_at (bytes y)) (entry_chain (map_at (bytes x)) ((view_of l (bytes x)).entry s)) (λ b i. held b (rw (lt-ltb s l.slots h, u) i))))
-
-      file_by : Dec (s < l.slots) → (u : Bool) → used ((view_of l (bytes x)).entry s) ≡ u → file_at l (files_in l y) s ≡ file_at l (files_in l x) s
-      file_by (no h) u e = rw (file_above l y s (omega arith), file_above l x s (omega arith)) refl
-      file_by (yes h) false e = rw (file_empty l y s h (ap used (entry-same s h) ∙ e), file_empty l x s h e) refl
-      file_by (yes h) true e = rw (file-used l y s h (ap used (entry-same s h) ∙ e), file-used l x s h e, content-same h e, entry-same s h) refl
-
--- ---- what an answer doesn't take from the image
-
-paging_by : (x y : List ℕ) (w : Option File) (offset : ℕ) (out : List ℕ)
-    → ((paging y w offset out).answer ≡ (paging x w offset out).answer) × ((paging y w offset out).output ≡ (paging x w offset out).output)
-paging_by x y none offset out = (refl, refl)
-paging_by x y (some f) offset out = go (ltb (length f.content) offset) refl
-  where
-    go : (t : Bool) → ltb (length f.content) offset ≡ t
-        → ((paging y (some f) offset out).answer ≡ (paging x (some f) offset out).answer) × ((paging y (some f) offset out).output ≡ (paging x (some f) offset out).output)
-    go true e = rw e (refl, refl)
-    go false e = rw e (refl, refl)
-
--- the blocks given are those stored, unless there was no room
-given-all : (blocks room : List ℕ) → ((storing blocks room).answer ≡ no_room → ⊥) → given (storing blocks room) ≡ blocks
-unfolding part
-given-all [] room n = refl
-given-all (b ∷ bs) room n = go (ltb (length room) (length (b ∷ bs))) refl
-  where
-    go : (t : Bool) → ltb (length room) (length (b ∷ bs)) ≡ t → given (storing (b ∷ bs) room) ≡ b ∷ bs
-    go true e = absurd (n (rw e refl))
-    go false e = rw e (part-splice room 0 (b ∷ bs) (omega (arith, ltb-false (length room) (length (b ∷ bs)) e)))
-
 -- ---- the theorems: y has what the check of x reads
 
 module _ (x y : List ℕ) (same : SameRead x y) where
   -- c being a call that a refused image answers with the check's refusal
-  refused_alike : {r : Refusal} → check_of x ≡ Refused r → (c : Call) → ((z : List ℕ) (q : Refusal) → unaccepted q z c ≡ came (refused_by q) (lent c) z) → Alike x y c
+  pub refused_alike : {r : Refusal} → check_of x ≡ Refused r → (c : Call) → ((z : List ℕ) (q : Refusal) → unaccepted q z c ≡ came (refused_by q) (lent c) z) → Alike x y c
   refused_alike e c plain =
       let a = sym (plain x _) ∙ call_refused x c refl e refl in
       let b = sym (plain y _) ∙ call_refused y c refl (check_same x y same ∙ e) refl in
@@ -252,27 +210,6 @@ module _ (x y : List ℕ) (same : SameRead x y) where
       go (Accepted k d f n) e =
           let l = layout_of k d in
           ap (λ (bs : List ℕ). storing bs out) (blocks_by_is x y same e s (dec_lt s l.slots) (used ((view_of l (bytes x)).entry s)) refl)
-
-  -- A page needs the blocks besides that such a call gave, to an output with room for them.
-  pub page_enough : (s : ℕ) (room : List ℕ) → ((blocks_of x s room).answer ≡ no_room → ⊥)
-      → ((b : ℕ) → In b (given (blocks_of x s room)) → block_at (bytes y) b ≡ block_at (bytes x) b)
-      → (offset : ℕ) (out : List ℕ) → Alike x y (page s offset out)
-  unfolding blocks_of
-  page_enough s room fits held offset out = go (check_of x) refl
-    where
-      go : (c : Checked) → check_of x ≡ c → Alike x y (page s offset out)
-      go (Refused r) e = refused_alike e (page s offset out) (λ z q. refl)
-      go (Accepted k d f n) e =
-          let l = layout_of k d in
-          let a = page-done x refl e refl s offset out in
-          let b = page-done y refl (check_same x y same ∙ e) refl s offset out in
-          let all = given-all (file_blocks l x s) room (rw e at fits) in
-          let file = file_by x y same e s (λ b i. (rw e at held) b (rw all i)) (dec_lt s l.slots) (used ((view_of l (bytes x)).entry s)) refl in
-          let p = paging_by x y (file_at l (files_in l x) s) offset out in
-          record {
-            answer = ap (λ (o : Outcome (List ℕ)). o.answer) (sym b) ∙ rw file p.0 ∙ ap (λ (o : Outcome (List ℕ)). o.answer) a;
-            output = ap (λ (o : Outcome (List ℕ)). o.output) (sym b) ∙ rw file p.1 ∙ ap (λ (o : Outcome (List ℕ)). o.output) a;
-          }
 
 -- ---- how much room a file's blocks need
 
