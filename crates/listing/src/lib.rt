@@ -3,7 +3,7 @@
 // The functions that put a part of it say which text they put, and where the next one goes; outside, only `cases` calls them.
 #![tactic(auto)]
 
-ghost use Rattle.std.specs.Prelude.{◌≡◌, ◌++◌, ◌+◌, ◌≤◌, ◌<◌, length, IfOk};
+ghost use Rattle.std.specs.Prelude.{◌≡◌, ◌++◌, ◌+◌, ◌≤◌, ◌<◌, length, IfOk, OnErr};
 ghost use Rattle.io.specs.Counts.{IsPrefixLen};
 ghost use Rattle.laws.specs.Reader.{bytes};
 ghost use Rattle.layout.specs.Layouts.{slot_offset};
@@ -17,9 +17,10 @@ ghost use Rattle.listing.specs.Puts.{Puts, Fills};
 use std::io::{Print, Read, Result};
 use std::rt::{Stdin, Stdout};
 
-// Reads until the buffer is full or the input ends, and says how many bytes came.
+// Reads until the buffer is full or the input ends, and says how many bytes came. Where a read fails, some of the buffer may be written.
 pub fn read_full(input: &mut Stdin, buffer: &mut [u8]) -> Result<usize>
-    ensures { IfOk result (λ count. IsPrefixLen count buffer.new) }
+    ensures ok { IfOk result (λ count. IsPrefixLen count buffer.new) }
+    ensures err { OnErr result (length buffer.new ≡ length buffer.old) }
 {
     let mut done = 0;
     while done < buffer.len() {

@@ -1,5 +1,5 @@
 -- A reply's bytes hold the answer whole: read back, they are the reply that was written, so cutting its numbers to three bytes loses nothing.
--- No call answers a number that takes more (`call_small`, rules/specs/Small.antt). Assumes nothing.
+-- No call answers a number that takes more (`call_small`, rules/proofs/Small.antt). Assumes nothing.
 use Rattle.std.specs.Prelude.{◌≡◌, refl, Bool, true, false, List, ℕ, eqb}
 use Rattle.std.proofs.Math.Option.{Option, none, some}
 use Rattle.std.proofs.Common.{arith}

@@ -1,5 +1,5 @@
 -- A reply's bytes hold the answer whole: read back, they are the reply that was written, so cutting its numbers to three bytes loses nothing.
--- No call answers a number that takes more (`call_small`, rules/specs/Small.antt). Assumes nothing.
+-- No call answers a number that takes more (`call_small`, rules/proofs/Small.antt). Assumes nothing.
 use Rattle.std.specs.Prelude.{List, ℕ, eqb, get_or, drop}
 use Rattle.laws.specs.Reader.{bytes}
 use Rattle.blocks.specs.Numbers.{number}

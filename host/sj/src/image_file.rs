@@ -49,10 +49,10 @@ pub fn read_head(path: &Path) -> Result<Image, Failure> {
 /// other file's content may be taken from it.
 ///
 /// The library's answers are those on the whole image: the length and the first 17,408 bytes decide the check
-/// (`head-decides` in rules/specs/Head.antt), the list of a slot, the slot of a name and type and a file's blocks
-/// (`list-enough`, `find-enough` and `blocks-enough` in locate/specs/Enough.antt), and with these blocks the file's
-/// pages (`page-enough` there). Zeros that nobody reads cost no memory. Standard input, what is no plain file and what
-/// isn't as long as an image is read whole.
+/// (`head_decides` in rules/proofs/Head.antt), the list of a slot, the slot of a name and type and a file's blocks
+/// (`list_enough`, `find_enough` and `blocks_enough` in locate/specs/Enough.antt), and with these blocks the file's
+/// pages (`page_enough` in locate/proofs/Enough.antt). Zeros that nobody reads cost no memory. Standard input, what is
+/// no plain file and what isn't as long as an image is read whole.
 pub struct Opened {
     path: PathBuf,
     file: File,

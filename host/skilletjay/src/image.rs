@@ -238,7 +238,7 @@ impl<B: AsRef<[u8]>> Image<B> {
     /// # Ok::<(), skilletjay::Refusal>(())
     /// ```
     pub fn blocks(&self, slot: Slot) -> Result<Vec<u16>, Refusal> {
-        // This much room is never refused by 21 (`room-enough` in locate/specs/Enough.antt).
+        // This much room is never refused by 21 (`room_enough` in locate/specs/Enough.antt).
         let mut blocks = vec![0; self.bytes().len() / BLOCK];
         let told = lend::blocks(self.bytes(), slot.0, &mut blocks);
         blocks.truncate(told.count);
