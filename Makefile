@@ -22,7 +22,7 @@ prove = mkdir -p target; (cd crates/$(1) && rt $(2)) 2>&1 | tee target/rt.log | 
 run: target/bin/list
 	@echo 'Proving the worked disks: some minutes, unless they are proved already'
 	@$(call prove,table,check)
-	@echo 'The worked disks and words P1 to P13 hold: crates/table/specs/Table.antt'
+	@echo 'The worked disks and words P1 to P13 hold: crates/table/specs/Table.antt, proved in crates/table/proofs/Table.antt'
 	@echo 'The disk crates/list/stdin holds:'
 	@target/bin/list < crates/list/stdin
 
