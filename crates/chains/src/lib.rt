@@ -2,10 +2,9 @@
 // Only the check and the salvage run call these; that directory and map lie in the head is shown by its length.
 #![tactic(auto)]
 
-ghost use Rattle.std.specs.Prelude.{◌≡◌, false, ◌+◌, ◌-◌, ◌≤◌, ◌<◌, length, get_or, replicate};
+ghost use Rattle.std.specs.Prelude.{◌≡◌, false, ◌+◌, ◌-◌, ◌≤◌, ◌<◌, length, get_or, replicate, None};
 ghost use Rattle.laws.specs.Reader.{bytes};
 ghost use Rattle.laws.specs.Scan.{lowest, count};
-ghost use Rattle.laws.specs.declared.Lowest.TheVariants.{Nowhere};
 ghost use Rattle.layout.specs.Layouts.{slot_offset, map_offset, block_offset};
 ghost use Rattle.layout.specs.Right.{LayoutRight};
 ghost use Rattle.blocks.specs.Blocks.{links_for};
@@ -89,7 +88,7 @@ fn chain_fault(head: &[u8], layout: layout::Layout, marks: &mut [bool; 1600]) ->
 
 // How many blocks the chains of all slots have.
 fn count_chained(head: &[u8], layout: layout::Layout) -> usize
-    requires { LayoutRight layout × (block_offset layout.first ≤ length head.now) × (lowest (broken layout (view_of layout (bytes head.now))) 0 layout.slots ≡ Nowhere) }
+    requires { LayoutRight layout × (block_offset layout.first ≤ length head.now) × (lowest (broken layout (view_of layout (bytes head.now))) 0 layout.slots ≡ None) }
     ensures { result ≡ length (owned (view_of layout (bytes head.now)) layout.slots) }
 {
     let end = layout.slots;
@@ -126,7 +125,7 @@ fn count_marked(layout: layout::Layout, marks: &[bool; 1600]) -> usize
 
 // The lowest slot whose chain shares a block with a lower slot's, by walking the chains in turn: its own comes upon a block marked before.
 fn share_fault(head: &[u8], layout: layout::Layout, marks: &mut [bool; 1600]) -> laws::Lowest
-    requires { LayoutRight layout × (block_offset layout.first ≤ length head.now) × (lowest (broken layout (view_of layout (bytes head.now))) 0 layout.slots ≡ Nowhere) × (marks.old ≡ replicate 1600 false) }
+    requires { LayoutRight layout × (block_offset layout.first ≤ length head.now) × (lowest (broken layout (view_of layout (bytes head.now))) 0 layout.slots ≡ None) × (marks.old ≡ replicate 1600 false) }
     ensures { result ≡ lowest (sharing layout (view_of layout (bytes head.now))) 0 layout.slots }
 {
     let end = layout.slots;
@@ -149,7 +148,7 @@ fn share_fault(head: &[u8], layout: layout::Layout, marks: &mut [bool; 1600]) ->
 
 // The lowest slot whose chain shares a block with a lower slot's (refusal 8). Where as many blocks are marked as the chains have, there is none.
 fn shared_slot(head: &[u8], layout: layout::Layout, marked: usize) -> laws::Lowest
-    requires { LayoutRight layout × (block_offset layout.first ≤ length head.now) × (lowest (broken layout (view_of layout (bytes head.now))) 0 layout.slots ≡ Nowhere) × (marked ≡ taken layout (view_of layout (bytes head.now))) }
+    requires { LayoutRight layout × (block_offset layout.first ≤ length head.now) × (lowest (broken layout (view_of layout (bytes head.now))) 0 layout.slots ≡ None) × (marked ≡ taken layout (view_of layout (bytes head.now))) }
     ensures { result ≡ lowest (sharing layout (view_of layout (bytes head.now))) 0 layout.slots }
 {
     if marked == count_chained(head, layout) {
@@ -212,7 +211,7 @@ fn stray_block(
     marked: usize,
     free: usize,
 ) -> laws::Lowest
-    requires { LayoutRight layout × (block_offset layout.first ≤ length head.now) × (lowest (broken layout (view_of layout (bytes head.now))) 0 layout.slots ≡ Nowhere) × (marked ≡ taken layout (view_of layout (bytes head.now))) × (free ≡ free_count layout (map_at (bytes head.now))) × Marks 1600 marks.now (owned (view_of layout (bytes head.now)) layout.slots) }
+    requires { LayoutRight layout × (block_offset layout.first ≤ length head.now) × (lowest (broken layout (view_of layout (bytes head.now))) 0 layout.slots ≡ None) × (marked ≡ taken layout (view_of layout (bytes head.now))) × (free ≡ free_count layout (map_at (bytes head.now))) × Marks 1600 marks.now (owned (view_of layout (bytes head.now)) layout.slots) }
     ensures { result ≡ lowest (stray layout (view_of layout (bytes head.now))) layout.first (layout.blocks - layout.first) }
 {
     let left = layout.blocks - layout.first - free;

@@ -2,18 +2,15 @@
 // salvage run's too.
 #![tactic(auto)]
 
-ghost use Rattle.std.specs.Prelude.{◌≡◌, ◌≤◌, length};
+ghost use Rattle.std.specs.Prelude.{◌≡◌, ◌≤◌, length, Ok, Err, None};
 ghost use Rattle.laws.specs.Reader.{bytes};
 ghost use Rattle.laws.specs.Scan.{lowest};
 ghost use Rattle.laws.specs.Refusals.{refusal_at};
-ghost use Rattle.laws.specs.declared.Lowest.TheVariants.{Nowhere};
-ghost use Rattle.laws.specs.declared.Counted.TheVariants.{Done};
 ghost use Rattle.layout.specs.Layouts.{layout_of, head_length};
 ghost use Rattle.view.specs.Rules.{bad_system, malformed};
 ghost use Rattle.image.specs.Image.{view_of};
 ghost use Rattle.slots.specs.Forms.{or_used};
-ghost use Rattle.rules.specs.declared.Known.TheVariants.{Disk, Unknown};
-ghost use Rattle.rules.specs.Check.{or_unknown, second_kind, known_kind, known_start, used_count, check_as, check_of, check_start};
+ghost use Rattle.rules.specs.Check.{or_unknown, second_kind, known_kind, known_start, used_count, check_as, check_of, check_start, known_as};
 
 // Refusals 5 to 9 of an image that 3 and 4 don't refuse and whose used slots are counted, else what the check tells of it.
 fn check_names(
@@ -23,7 +20,7 @@ fn check_names(
     density: layout::Density,
     files: usize,
 ) -> rules::Checked
-    requires { (head_length ≤ length head.now) × (layout ≡ layout_of kind density) × (lowest (bad_system layout (view_of layout (bytes head.now))) 0 layout.system ≡ Nowhere) × (Done files ≡ or_used (lowest (malformed layout (view_of layout (bytes head.now))) 0 layout.slots) (used_count layout (view_of layout (bytes head.now)))) }
+    requires { (head_length ≤ length head.now) × (layout ≡ layout_of kind density) × (lowest (bad_system layout (view_of layout (bytes head.now))) 0 layout.system ≡ None) × (Ok files ≡ or_used (lowest (malformed layout (view_of layout (bytes head.now))) 0 layout.slots) (used_count layout (view_of layout (bytes head.now)))) }
     ensures { result ≡ check_as kind density (bytes head.now) }
 {
     let repeated = slots::name_fault(head, layout);
@@ -67,7 +64,7 @@ fn check_as(head: &[u8], kind: layout::Kind, density: layout::Density) -> rules:
 
 // Refusal 2.
 fn no_kind() -> rules::Known
-    ensures { result ≡ Unknown (refusal_at 2 0) }
+    ensures { result ≡ Err (refusal_at 2 0) }
 {
     rules::Known::Unknown(laws::Refusal {
         number: 2,
@@ -77,7 +74,7 @@ fn no_kind() -> rules::Known
 
 // The kind of an image whose first directory is passed over: 2 at low density.
 fn second_kind(density: layout::Density) -> rules::Known
-    ensures { result ≡ or_unknown (second_kind density) 2 (λ k. Disk k density) }
+    ensures { result ≡ or_unknown (second_kind density) 2 (λ k. known_as k density) }
 {
     match density {
         layout::Density::Low => no_kind(),

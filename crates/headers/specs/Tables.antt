@@ -2,13 +2,13 @@
 -- named values. Tune cents, the pitch law, vel zones used, and what is internal or unused may be any bytes (document 01, "The files"). Assumes nothing.
 use Rattle.std.specs.Prelude.{◌≡◌, refl, List, [], ◌∷◌, ◌++◌, ℕ, ◌-◌, ◌≤◌, take, drop}
 use Rattle.std.proofs.Common.{ap, ◌∙◌, arith}
-use Rattle.laws.specs.declared.Lowest.{Lowest}
 use Rattle.rows.specs.Rows.{rows_fault}
 use Rattle.rows.specs.declared.Row.{Row}
 use Rattle.rows.specs.declared.Row.TheVariants.{Only, From, Within, OrOff, OneOf, Name, Ascii, Zeros, AllFrom, AllWithin, Word, Past, WordsWithin, AtMost}
 use Rattle.headers.specs.declared.Part.{Part}
 use Rattle.headers.specs.declared.Table.{Table}
 use Rattle.headers.specs.declared.Table.TheVariants.{Sample900, Sample1000, Program, Keygroup}
+use Rattle.laws.specs.Scan.{Lowest}
 
 -- S900 sample (section 3).
 unfoldable pub sample900_rows : List Row

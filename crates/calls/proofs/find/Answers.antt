@@ -13,10 +13,10 @@ returns-in_default c =
 pub judge_name-requires : goal.judge_name-requires
 judge_name-requires c =
     let img = c.args.image.now in
-    let yes = c.in-Accepted.is in
+    let yes = c.in-Ok.is in
     (done-right img c.check-checked.ensures yes c.layout_of-layout.ensures, done-rules img c.check-checked.ensures yes c.layout_of-layout.ensures)
 
 pub returns : goal.returns
 returns c =
     let a = c.args in
-    find_done a.image.now c.check-checked.ensures c.in-Accepted.is c.layout_of-layout.ensures a.name.now a.letter c.judge_name.ensures c.found_by.ensures
+    find_done a.image.now c.check-checked.ensures c.in-Ok.is c.layout_of-layout.ensures a.name.now a.letter c.judge_name.ensures c.found_by.ensures

@@ -4,8 +4,8 @@ use Rattle.std.proofs.Common.{sym, ap}
 use Rattle.calls.specs.Answers.{found_by}
 use Rattle.calls.proofs.found_by.Goals as goal
 
-pub returns-in-Refuse : goal.returns-in-Refuse
-returns-in-Refuse c = ap found_by (sym c.in-Refuse.is)
+pub returns-in-Err : goal.returns-in-Err
+returns-in-Err c = ap found_by (sym c.in-Err.is)
 
-pub returns-in-Grant : goal.returns-in-Grant
-returns-in-Grant c = ap found_by (sym c.in-Grant.is)
+pub returns-in-Ok : goal.returns-in-Ok
+returns-in-Ok c = ap found_by (sym c.in-Ok.is)

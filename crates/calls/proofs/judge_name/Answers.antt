@@ -13,12 +13,12 @@ slot_named-found-requires c =
     let legal : (let a = c.args in is_legal a.layout a.name.now a.letter ≡ true) = sym c.is_legal.ensures ∙ c.if-not-is_legal.false in
     (c.requires.0, c.requires.1, legal)
 
-pub returns-in-At : goal.returns-in-At
-returns-in-At c =
+pub returns-in-Some : goal.returns-in-Some
+returns-in-Some c =
     let legal : (let a = c.args in is_legal a.layout a.name.now a.letter ≡ true) = sym c.is_legal.ensures ∙ c.if-not-is_legal.false in
-    judge_found _ _ _ _ legal c.slot_named-found.ensures c.in-At.is
+    judge_found _ _ _ _ legal c.slot_named-found.ensures c.in-Some.is
 
-pub returns-in-Nowhere : goal.returns-in-Nowhere
-returns-in-Nowhere c =
+pub returns-in-None : goal.returns-in-None
+returns-in-None c =
     let legal : (let a = c.args in is_legal a.layout a.name.now a.letter ≡ true) = sym c.is_legal.ensures ∙ c.if-not-is_legal.false in
-    judge_none _ _ _ _ legal c.slot_named-found.ensures c.in-Nowhere.is
+    judge_none _ _ _ _ legal c.slot_named-found.ensures c.in-None.is

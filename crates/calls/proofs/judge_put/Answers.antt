@@ -18,10 +18,10 @@ slot_named-taken-requires c =
     let legal : (let a = c.args in is_legal a.layout a.name.now a.letter ≡ true) = sym c.is_legal.ensures ∙ c.if-not-is_legal.false in
     (c.requires.0, c.requires.1, legal)
 
-pub returns-in-At : goal.returns-in-At
-returns-in-At c =
+pub returns-in-Some : goal.returns-in-Some
+returns-in-Some c =
     let legal : (let a = c.args in is_legal a.layout a.name.now a.letter ≡ true) = sym c.is_legal.ensures ∙ c.if-not-is_legal.false in
-    λ content long. put_taken _ c.requires.0 _ c.requires.1 _ _ content long legal c.if-size-eq0.false c.slot_named-taken.ensures c.in-At.is
+    λ content long. put_taken _ c.requires.0 _ c.requires.1 _ _ content long legal c.if-size-eq0.false c.slot_named-taken.ensures c.in-Some.is
 
 pub returns-in_default-empty : goal.returns-in_default-empty
 returns-in_default-empty c =
@@ -31,5 +31,5 @@ returns-in_default-empty c =
 pub returns : goal.returns
 returns c =
     let legal : (let a = c.args in is_legal a.layout a.name.now a.letter ≡ true) = sym c.is_legal.ensures ∙ c.if-not-is_legal.false in
-    λ content long. put_room _ c.requires.0 _ c.requires.1 _ _ content long legal c.if-size-eq0.false c.slot_named-taken.ensures c.in_default.is c.empty_slot-empty.ensures c.in-At-empty.is c.requires.2
+    λ content long. put_room _ c.requires.0 _ c.requires.1 _ _ content long legal c.if-size-eq0.false c.slot_named-taken.ensures c.in_default.is c.empty_slot-empty.ensures c.in-Some-empty.is c.requires.2
     c.judge_room.ensures

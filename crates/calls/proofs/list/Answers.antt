@@ -14,10 +14,10 @@ returns-in_default c =
 pub list_slot-requires : goal.list_slot-requires
 list_slot-requires c =
     let img = c.args.image.now in
-    let yes = c.in-Accepted.is in
+    let yes = c.in-Ok.is in
     (done-right img c.check-checked.ensures yes c.layout_of-layout.ensures, done-rules img c.check-checked.ensures yes c.layout_of-layout.ensures)
 
 pub returns : goal.returns
 returns c =
     let a = c.args in
-    subst (λ o. Lists a.image.now o c.list_slot.result) (list_done a.image.now c.check-checked.ensures c.in-Accepted.is c.layout_of-layout.ensures a.slot) c.list_slot.ensures
+    subst (λ o. Lists a.image.now o c.list_slot.result) (list_done a.image.now c.check-checked.ensures c.in-Ok.is c.layout_of-layout.ensures a.slot) c.list_slot.ensures

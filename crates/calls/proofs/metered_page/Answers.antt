@@ -13,13 +13,13 @@ returns-in_default c =
 pub page_slot-requires : goal.page_slot-requires
 page_slot-requires c =
     let img = c.args.image.now in
-    let yes = c.in-Accepted.is in
+    let yes = c.in-Ok.is in
     (done-right img c.check-checked.ensures yes c.layout_of-layout.ensures, done-rules img c.check-checked.ensures yes c.layout_of-layout.ensures)
 
 pub returns : goal.returns
 returns c =
     let a = c.args in
     let img = a.image.now in
-    let yes = c.in-Accepted.is in
+    let yes = c.in-Ok.is in
     let m = c.page_slot.ensures in
     record { image_after = m.image_after ∙ page-done img c.check-checked.ensures yes c.layout_of-layout.ensures a.slot a.offset _; cost_value = m.cost_value ∙ cost_done img c.check-checked.ensures yes c.layout_of-layout.ensures a.slot a.offset (length a.out.now) }

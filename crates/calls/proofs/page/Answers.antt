@@ -14,10 +14,10 @@ returns-in_default c =
 pub page_slot-metered-requires : goal.page_slot-metered-requires
 page_slot-metered-requires c =
     let img = c.args.image.now in
-    let yes = c.in-Accepted.is in
+    let yes = c.in-Ok.is in
     (done-right img c.check-checked.ensures yes c.layout_of-layout.ensures, done-rules img c.check-checked.ensures yes c.layout_of-layout.ensures)
 
 pub returns : goal.returns
 returns c =
     let a = c.args in
-    c.page_slot-metered.ensures.image_after ∙ page-done a.image.now c.check-checked.ensures c.in-Accepted.is c.layout_of-layout.ensures a.slot a.offset _
+    c.page_slot-metered.ensures.image_after ∙ page-done a.image.now c.check-checked.ensures c.in-Ok.is c.layout_of-layout.ensures a.slot a.offset _

@@ -16,14 +16,14 @@ returns-in_default c =
 pub judge_put-judged-requires : goal.judge_put-judged-requires
 judge_put-judged-requires c =
     let img = c.args.image.now in
-    let yes = c.in-Accepted.is in
+    let yes = c.in-Ok.is in
     (done-right img c.check-checked.ensures yes c.layout_of-layout.ensures, done-rules img c.check-checked.ensures yes c.layout_of-layout.ensures, done-free img c.check-checked.ensures yes c.layout_of-layout.ensures)
 
 pub returns-in_default-judged : goal.returns-in_default-judged
 returns-in_default-judged c =
     let a = c.args in
     let img = a.image.now in
-    let yes = c.in-Accepted.is in
+    let yes = c.in-Ok.is in
     let judged = c.judge_put-judged.ensures a.content.now refl in
     put_found img c.check-checked.ensures yes c.layout_of-layout.ensures a.name.now a.letter a.content.now judged c.in_default-judged.is c.found_by.ensures
 
@@ -31,24 +31,24 @@ pub area_of-area-requires : goal.area_of-area-requires
 area_of-area-requires c =
     let a = c.args in
     let img = a.image.now in
-    let yes = c.in-Accepted.is in
+    let yes = c.in-Ok.is in
     let judged = c.judge_put-judged.ensures a.content.now refl in
-    (done-right img c.check-checked.ensures yes c.layout_of-layout.ensures, put_legal img c.check-checked.ensures yes c.layout_of-layout.ensures a.name.now a.letter a.content.now judged c.in-Grant.is)
+    (done-right img c.check-checked.ensures yes c.layout_of-layout.ensures, put_legal img c.check-checked.ensures yes c.layout_of-layout.ensures a.name.now a.letter a.content.now judged c.in-Ok.is)
 
 pub put_slot-requires : goal.put_slot-requires
 put_slot-requires c =
     let a = c.args in
     let img = a.image.now in
-    let yes = c.in-Accepted.is in
+    let yes = c.in-Ok.is in
     let judged = c.judge_put-judged.ensures a.content.now refl in
-    put_needs img c.check-checked.ensures yes c.layout_of-layout.ensures a.name.now a.letter a.content.now judged c.in-Grant.is
+    put_needs img c.check-checked.ensures yes c.layout_of-layout.ensures a.name.now a.letter a.content.now judged c.in-Ok.is
 
 pub returns : goal.returns
 returns c =
     let a = c.args in
     let img = a.image.now in
-    let yes = c.in-Accepted.is in
+    let yes = c.in-Ok.is in
     let judged = c.judge_put-judged.ensures a.content.now refl in
     let l = c.layout_of-layout.result in
-    put_granted img c.check-checked.ensures yes c.layout_of-layout.ensures a.name.now a.letter a.content.now judged c.in-Grant.is
-    (c.put_slot.ensures ∙ ap (λ (area : List ℕ). put_area l img c.in-Grant.slot area a.letter a.content.now) c.area_of-area.ensures ∙ put_area_is l img _ a.name.now a.letter a.content.now)
+    put_granted img c.check-checked.ensures yes c.layout_of-layout.ensures a.name.now a.letter a.content.now judged c.in-Ok.is
+    (c.put_slot.ensures ∙ ap (λ (area : List ℕ). put_area l img c.in-Ok.slot area a.letter a.content.now) c.area_of-area.ensures ∙ put_area_is l img _ a.name.now a.letter a.content.now)

@@ -13,26 +13,26 @@ returns-in_default c =
 pub judge_name-judged-requires : goal.judge_name-judged-requires
 judge_name-judged-requires c =
     let img = c.args.image.now in
-    let yes = c.in-Accepted.is in
+    let yes = c.in-Ok.is in
     (done-right img c.check-checked.ensures yes c.layout_of-layout.ensures, done-rules img c.check-checked.ensures yes c.layout_of-layout.ensures)
 
 pub remove_slot-requires : goal.remove_slot-requires
 remove_slot-requires c =
     let a = c.args in
     let img = a.image.now in
-    let yes = c.in-Accepted.is in
-    remove_needs img c.check-checked.ensures yes c.layout_of-layout.ensures a.name.now a.letter c.judge_name-judged.ensures c.in-Grant.is
+    let yes = c.in-Ok.is in
+    remove_needs img c.check-checked.ensures yes c.layout_of-layout.ensures a.name.now a.letter c.judge_name-judged.ensures c.in-Ok.is
 
-pub returns-in-Refuse : goal.returns-in-Refuse
-returns-in-Refuse c =
+pub returns-in-Err : goal.returns-in-Err
+returns-in-Err c =
     let a = c.args in
     let img = a.image.now in
-    let yes = c.in-Accepted.is in
-    remove_refused img c.check-checked.ensures yes c.layout_of-layout.ensures a.name.now a.letter c.judge_name-judged.ensures c.in-Refuse.is
+    let yes = c.in-Ok.is in
+    remove_refused img c.check-checked.ensures yes c.layout_of-layout.ensures a.name.now a.letter c.judge_name-judged.ensures c.in-Err.is
 
-pub returns-in-Grant : goal.returns-in-Grant
-returns-in-Grant c =
+pub returns-in-Ok : goal.returns-in-Ok
+returns-in-Ok c =
     let a = c.args in
     let img = a.image.now in
-    let yes = c.in-Accepted.is in
-    remove_granted img c.check-checked.ensures yes c.layout_of-layout.ensures a.name.now a.letter c.judge_name-judged.ensures c.in-Grant.is c.remove_slot.ensures
+    let yes = c.in-Ok.is in
+    remove_granted img c.check-checked.ensures yes c.layout_of-layout.ensures a.name.now a.letter c.judge_name-judged.ensures c.in-Ok.is c.remove_slot.ensures

@@ -5,11 +5,11 @@ use Rattle.calls.proofs.salvage.Goals as goal
 
 pub salvage_known-requires : goal.salvage_known-requires
 salvage_known-requires c =
-    disk_right _ c.known-disk.ensures c.in-Disk.is c.layout_of-layout.ensures
+    disk_right _ c.known-disk.ensures c.in-Ok.is c.layout_of-layout.ensures
 
-pub returns-in-Disk : goal.returns-in-Disk
-returns-in-Disk c =
-    disk_call _ c.known-disk.ensures c.in-Disk.is c.layout_of-layout.ensures _ c.salvage_known.ensures
+pub returns-in-Ok : goal.returns-in-Ok
+returns-in-Ok c =
+    disk_call _ c.known-disk.ensures c.in-Ok.is c.layout_of-layout.ensures _ c.salvage_known.ensures
 
-pub returns-in-Unknown : goal.returns-in-Unknown
-returns-in-Unknown c = unknown_call _ c.known-disk.ensures _ c.in-Unknown.is
+pub returns-in-Err : goal.returns-in-Err
+returns-in-Err c = unknown_call _ c.known-disk.ensures _ c.in-Err.is

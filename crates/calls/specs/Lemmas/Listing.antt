@@ -18,9 +18,7 @@ use Rattle.laws.specs.Refusals.{refusal_at}
 use Rattle.image.specs.Image.{entry_at, view_of, files_in, DiskRules}
 use Rattle.image.specs.Lemmas.Entries.{length-area}
 use Rattle.record.specs.Record.{file_at, listing}
-use Rattle.calls.specs.declared.Listed.{Listed}
-use Rattle.calls.specs.declared.Entry.TheVariants as entries
-use Rattle.calls.specs.Answers.{Lists, unlisted_by}
+use Rattle.calls.specs.Answers.{Lists, unlisted_by, Listed}
 use Rattle.calls.specs.Lemmas.Slots.{file-used, file-length, slot_held}
 
 pub lists_none : (img : List ℕ) (w : Option File) {r : Listed} → w ≡ none → r ≡ unlisted_by (refusal_at 10 0) → Lists img (listing img w) r
@@ -35,7 +33,7 @@ module _ (l : Layout) (right : LayoutRight l) (img : List ℕ) (rules : DiskRule
     (here : used ((view_of l (bytes img)).entry s) ≡ true) where
   pub lists_file : {letter size : ℕ} {name : List ℕ} → letter ≡ ((view_of l (bytes img)).entry s).type → size ≡ ((view_of l (bytes img)).entry s).size
       → name ≡ padded (name_of l ((view_of l (bytes img)).entry s).area) 12
-      → Lists img (listing img (file_at l (files_in l img) s)) (record { entry = entries.File l.letters letter size; name = name })
+      → Lists img (listing img (file_at l (files_in l img) s)) (record { entry = File l.letters letter size; name = name })
   lists_file t z n =
       let given = name_of l ((view_of l (bytes img)).entry s).area in
       let long : length given ≡ l.letters = length-name l right ((view_of l (bytes img)).entry s).area (length-area (bytes img) (slot_offset l s)) in

@@ -23,7 +23,6 @@ use Rattle.rules.specs.Check.{came}
 use Rattle.pages.specs.declared.Cost.{Cost}
 use Rattle.pages.specs.Cost.{cost_of, cost_none}
 use Rattle.calls.specs.declared.Metered.{Metered}
-use Rattle.calls.specs.declared.Paged.TheVariants as pages
 use Rattle.calls.specs.Answers.{paged_of, unpaged_by}
 use Rattle.calls.specs.Metered.{page_cost}
 use Rattle.calls.specs.Lemmas.Slots.{slot_file, file-length}
@@ -69,7 +68,7 @@ module _ (img : List ℕ) (w : Option File) (offset : ℕ) (o : List ℕ) where
       rw t (pages_above f size e n h p, rw e (sym (cost_none (blocks_for (length f.content)) offset (min (length o) (length f.content - offset)) (omega arith))))
 
   pub meters_file : (f : File) (size count : ℕ) {end : Bool} {cost : Cost} {q : List ℕ} → w ≡ some f → length f.content ≡ size → 1 ≤ size → offset ≤ size → count ≡ min (length o) (size - offset)
-      → end ≡ eqb (offset + count) size → q ≡ splice o 0 (part f.content offset count) → cost ≡ cost_of ((size - 1) / 1024 + 1) offset count → Due (record { paged = pages.Page count end; cost = cost }) q
+      → end ≡ eqb (offset + count) size → q ≡ splice o 0 (part f.content offset count) → cost ≡ cost_of ((size - 1) / 1024 + 1) offset count → Due (record { paged = Page count end; cost = cost }) q
   meters_file f size count e n least h k t p v =
       let b : (size - 1) / 1024 + 1 ≡ blocks_for (length f.content) = omega arith in
       let r : min (length o) (size - offset) ≡ min (length o) (length f.content - offset) = omega arith in

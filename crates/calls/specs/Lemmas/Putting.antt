@@ -1,25 +1,21 @@
 -- Put's judgement step by step, as the code takes it.
 -- On a valid disk the record's empty slot and free blocks are those of the entries and the map. Assumes nothing.
-use Rattle.std.specs.Prelude.{◌≡◌, refl, true, false, List, ℕ, ◌≤◌, ◌<◌, length}
+use Rattle.std.specs.Prelude.{◌≡◌, refl, true, false, List, ℕ, ◌≤◌, ◌<◌, length, Ok, Some, None}
 use Rattle.std.proofs.Math.Path.{sym}
 use Rattle.std.proofs.Common.{ap₂, ◌∙◌, arith, lt-ltb, le-ltb}
 use Rattle.std.proofs.Math.Bool.{not}
-use Rattle.laws.specs.Scan.{lowest}
+use Rattle.laws.specs.Scan.{lowest, Lowest}
 use Rattle.laws.specs.Lemmas.Scan.{lowest_cong}
 use Rattle.laws.specs.Reader.{bytes}
-use Rattle.laws.specs.declared.Lowest.{Lowest}
-use Rattle.laws.specs.declared.Lowest.TheVariants.{At, Nowhere}
 use Rattle.layout.specs.declared.Layout.{Layout}
 use Rattle.layout.specs.Right.{LayoutRight}
 use Rattle.blocks.specs.Blocks.{blocks_for}
 use Rattle.map.specs.Map.{map_at, free_count}
 use Rattle.view.specs.Disk.{used}
 use Rattle.image.specs.Image.{view_of, files_in, DiskRules}
-use Rattle.record.specs.Record.{refuse, is_legal, is_empty, slot_of, empty_slot, judge_put}
+use Rattle.record.specs.Record.{refuse, is_legal, is_empty, slot_of, empty_slot, judge_put, Judged}
 use Rattle.record.specs.Order.{room_for, order_unfit, order_empty, order_taken, order_full, order_room}
 use Rattle.record.specs.Lemmas.Update.{empty_used, free_is}
-use Rattle.record.specs.declared.Judged.{Judged}
-use Rattle.record.specs.declared.Judged.TheVariants.{Grant}
 
 -- wanted is how many blocks a content of this size needs
 module _ (free size slot wanted : ℕ) (needs : wanted ≡ blocks_for size) where
@@ -29,7 +25,7 @@ module _ (free size slot wanted : ℕ) (needs : wanted ≡ blocks_for size) wher
   pub room_long : wanted ≤ free → 16777215 < size → refuse 16 0 ≡ room_for free size slot
   room_long h k = rw (le-ltb free (blocks_for size) (omega arith), lt-ltb 16777215 size k) refl
 
-  pub room_some : wanted ≤ free → size ≤ 16777215 → Grant slot ≡ room_for free size slot
+  pub room_some : wanted ≤ free → size ≤ 16777215 → Ok slot ≡ room_for free size slot
   room_some h k = rw (le-ltb free (blocks_for size) (omega arith), le-ltb 16777215 size k) refl
 
 module _ (l : Layout) (right : LayoutRight l) (img : List ℕ) (rules : DiskRules l img) (name : List ℕ) (type : ℕ) (content : List ℕ) {size : ℕ} (long : length content ≡ size) where
@@ -44,20 +40,20 @@ module _ (l : Layout) (right : LayoutRight l) (img : List ℕ) (rules : DiskRule
       nonzero : length content ≡ 0 → ⊥
       nonzero e = some (sym long ∙ e)
 
-      pub put_taken : {s : ℕ} → taken ≡ At s → refuse 12 s ≡ judge_put l (files_in l img) name type content
+      pub put_taken : {s : ℕ} → taken ≡ Some s → refuse 12 s ≡ judge_put l (files_in l img) name type content
       put_taken e = sym (order_taken l (files_in l img) name type content legal nonzero (sym slot ∙ e))
 
-      module _ (new : taken ≡ Nowhere) {empty : Lowest} (found : empty ≡ lowest (λ s. not (used ((view_of l (bytes img)).entry s))) 0 l.slots) where
+      module _ (new : taken ≡ None) {empty : Lowest} (found : empty ≡ lowest (λ s. not (used ((view_of l (bytes img)).entry s))) 0 l.slots) where
         empty_slot_is : empty_slot l (files_in l img) ≡ empty
         unfolding empty_slot
         empty_slot_is =
             lowest_cong (λ s. is_empty (files_in l img s)) (λ s. not (used ((view_of l (bytes img)).entry s))) 0 l.slots
             (λ s p q. empty_used l (view_of l (bytes img)) s (omega arith)) ∙ sym found
 
-        pub put_full : empty ≡ Nowhere → refuse 14 0 ≡ judge_put l (files_in l img) name type content
+        pub put_full : empty ≡ None → refuse 14 0 ≡ judge_put l (files_in l img) name type content
         put_full e = sym (order_full l (files_in l img) name type content legal nonzero (sym slot ∙ new) (empty_slot_is ∙ e))
 
-        pub put_room : {s : ℕ} {r : Judged} {blocks : ℕ} → empty ≡ At s → blocks ≡ free_count l (map_at (bytes img)) → r ≡ room_for blocks size s
+        pub put_room : {s : ℕ} {r : Judged} {blocks : ℕ} → empty ≡ Some s → blocks ≡ free_count l (map_at (bytes img)) → r ≡ room_for blocks size s
             → r ≡ judge_put l (files_in l img) name type content
         put_room {s} e n t =
             t ∙ ap₂ (λ (b c : ℕ). room_for b c s) (n ∙ sym (free_is l right img rules)) (sym long)

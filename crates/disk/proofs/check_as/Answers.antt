@@ -10,10 +10,10 @@ system_fault-system-requires c =
     let made = c.layout_of-layout.ensures in
     (made_right c.args.kind c.args.density made, first_held c.args.kind c.args.density made c.requires)
 
-pub returns-in-At : goal.returns-in-At
-returns-in-At c =
+pub returns-in-Some : goal.returns-in-Some
+returns-in-Some c =
     let a = c.args in
-    check_system a.kind a.density c.layout_of-layout.ensures (bytes a.head.now) c.system_fault-system.ensures c.in-At.is
+    check_system a.kind a.density c.layout_of-layout.ensures (bytes a.head.now) c.system_fault-system.ensures c.in-Some.is
 
 pub count_formed-formed-requires : goal.count_formed-formed-requires
 count_formed-formed-requires c =
@@ -25,11 +25,11 @@ check_names-requires c = (
   c.requires,
   c.layout_of-layout.ensures,
   sym c.system_fault-system.ensures ∙ c.in_default.is,
-  sym c.in-Done.is ∙ c.count_formed-formed.ensures,
+  sym c.in-Ok.is ∙ c.count_formed-formed.ensures,
 )
 
-pub returns-in-Refused : goal.returns-in-Refused
-returns-in-Refused c =
+pub returns-in-Err : goal.returns-in-Err
+returns-in-Err c =
     let a = c.args in
     check_form a.kind a.density c.layout_of-layout.ensures (bytes a.head.now) (sym c.system_fault-system.ensures ∙ c.in_default.is) _
-    (sym c.in-Refused.is ∙ c.count_formed-formed.ensures)
+    (sym c.in-Err.is ∙ c.count_formed-formed.ensures)

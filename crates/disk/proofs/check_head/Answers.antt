@@ -5,10 +5,10 @@ use Rattle.disk.specs.Lemmas.Steps.{start_unknown, start_disk, start_long}
 use Rattle.disk.proofs.check_head.Goals as goal
 
 pub check_as-requires : goal.check_as-requires
-check_as-requires c = start_long _ _ c.known-disk.ensures c.in-Disk.is
+check_as-requires c = start_long _ _ c.known-disk.ensures c.in-Ok.is
 
-pub returns-in-Disk : goal.returns-in-Disk
-returns-in-Disk c = c.check_as.ensures ∙ start_disk _ _ c.known-disk.ensures c.in-Disk.is
+pub returns-in-Ok : goal.returns-in-Ok
+returns-in-Ok c = c.check_as.ensures ∙ start_disk _ _ c.known-disk.ensures c.in-Ok.is
 
-pub returns-in-Unknown : goal.returns-in-Unknown
-returns-in-Unknown c = start_unknown _ _ c.known-disk.ensures c.in-Unknown.is
+pub returns-in-Err : goal.returns-in-Err
+returns-in-Err c = start_unknown _ _ c.known-disk.ensures c.in-Err.is

@@ -8,21 +8,21 @@ pub name_fault-repeated-requires : goal.name_fault-repeated-requires
 name_fault-repeated-requires c =
     (made_right c.args.kind c.args.density c.requires.1, directory_held c.args.kind c.args.density c.requires.1 c.requires.0)
 
-pub returns-in-At : goal.returns-in-At
-returns-in-At c =
+pub returns-in-Some : goal.returns-in-Some
+returns-in-Some c =
     let a = c.args in
-    check_name a.kind a.density c.requires.1 (bytes a.head.now) c.requires.2 c.requires.3 c.name_fault-repeated.ensures c.in-At.is
+    check_name a.kind a.density c.requires.1 (bytes a.head.now) c.requires.2 c.requires.3 c.name_fault-repeated.ensures c.in-Some.is
 
 pub chain_rules-chained-requires : goal.chain_rules-chained-requires
 chain_rules-chained-requires c =
     (made_right c.args.kind c.args.density c.requires.1, first_held c.args.kind c.args.density c.requires.1 c.requires.0)
 
-pub returns-in-Done : goal.returns-in-Done
-returns-in-Done c =
+pub returns-in-Ok : goal.returns-in-Ok
+returns-in-Ok c =
     let a = c.args in
-    check_pass a.kind a.density c.requires.1 (bytes a.head.now) c.requires.2 c.requires.3 c.name_fault-repeated.ensures c.in_default.is c.chain_rules-chained.ensures c.in-Done.is
+    check_pass a.kind a.density c.requires.1 (bytes a.head.now) c.requires.2 c.requires.3 c.name_fault-repeated.ensures c.in_default.is c.chain_rules-chained.ensures c.in-Ok.is
 
-pub returns-in-Refused : goal.returns-in-Refused
-returns-in-Refused c =
+pub returns-in-Err : goal.returns-in-Err
+returns-in-Err c =
     let a = c.args in
-    check_chains a.kind a.density c.requires.1 (bytes a.head.now) c.requires.2 c.requires.3 c.name_fault-repeated.ensures c.in_default.is c.chain_rules-chained.ensures c.in-Refused.is
+    check_chains a.kind a.density c.requires.1 (bytes a.head.now) c.requires.2 c.requires.3 c.name_fault-repeated.ensures c.in_default.is c.chain_rules-chained.ensures c.in-Err.is

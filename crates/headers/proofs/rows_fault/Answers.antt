@@ -5,8 +5,8 @@ use Rattle.rows.specs.Lemmas.Arms.{rows_clean}
 use Rattle.rows.proofs.Lemmas.Arms.{rows_stop, rows_on}
 use Rattle.headers.proofs.rows_fault.Goals as goal
 
-pub returns-in-At : goal.returns-in-At
-returns-in-At c = rows_stop _ _ c.args.rows c.args.first c.args.end c.loop-i.i c.loop-i.invariant.1 (omega arith) (omega arith) refl c.row_fault-fault.ensures c.in-At.is
+pub returns-in-Some : goal.returns-in-Some
+returns-in-Some c = rows_stop _ _ c.args.rows c.args.first c.args.end c.loop-i.i c.loop-i.invariant.1 (omega arith) (omega arith) refl c.row_fault-fault.ensures c.in-Some.is
 
 pub loop-i-preserved : goal.loop-i-preserved
 loop-i-preserved c = (omega arith, rows_on _ _ c.args.rows c.args.first c.args.end c.loop-i.i c.loop-i.invariant.1 (omega arith) (omega arith) refl c.row_fault-fault.ensures c.in_default.is)

@@ -13,10 +13,10 @@ returns-in_default c =
 pub slot_blocks-requires : goal.slot_blocks-requires
 slot_blocks-requires c =
     let img = c.args.image.now in
-    let yes = c.in-Accepted.is in
+    let yes = c.in-Ok.is in
     (done-right img c.check-checked.ensures yes c.layout_of-layout.ensures, done-rules img c.check-checked.ensures yes c.layout_of-layout.ensures)
 
 pub returns : goal.returns
 returns c =
     let a = c.args in
-    c.slot_blocks.ensures ∙ blocks_done a.image.now a.slot a.out.now c.check-checked.ensures c.in-Accepted.is c.layout_of-layout.ensures
+    c.slot_blocks.ensures ∙ blocks_done a.image.now a.slot a.out.now c.check-checked.ensures c.in-Ok.is c.layout_of-layout.ensures

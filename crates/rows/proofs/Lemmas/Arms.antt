@@ -1,6 +1,6 @@
 -- What each arm of the code shows of `legal`, `breaks` and a run's or table's fault.
 -- By the tests that led there; a table's loop by what the rows from row i on give. Assumes nothing.
-use Rattle.std.specs.Prelude.{◌≡◌, List, get_or, take, drop}
+use Rattle.std.specs.Prelude.{◌≡◌, List, get_or, take, drop, Some, None}
 use Rattle.std.proofs.Math.Path.{refl, sym, ap}
 use Rattle.std.proofs.Common.{◌∙◌}
 use Prim.Native.Nat.{ℕ, suc, ◌+◌, ◌-◌, ◌≤◌, ◌<◌}
@@ -8,11 +8,10 @@ use Rattle.std.proofs.Math.Numerals.{add-one}
 use native.Mathlib.Omega.{arith}
 use Rattle.std.proofs.Math.ListN.{length}
 use Rattle.std.proofs.Math.Seq.{drop-cons}
-use Rattle.laws.specs.declared.Lowest.{Lowest}
-use Rattle.laws.specs.declared.Lowest.TheVariants.{At, Nowhere}
 use Rattle.rows.specs.declared.Row.{Row}
 use Rattle.rows.specs.Rows.{row_fault, or_else, rows_fault}
 use Rattle.rows.specs.Lemmas.Arms.{no_row, RestOf}
+use Rattle.laws.specs.Scan.{Lowest}
 
 -- ---- a table: the rows from `first` on, below `end`
 
@@ -32,9 +31,9 @@ module _ (header : List ℕ) (base : ℕ) (rows : List Row) (first end i : ℕ) 
   rest_by v h l e k t = sym (ap (λ (x : Lowest). or_else x (rows_fault header base (take (end - (i + 1)) (drop (i + 1) rows)))) t) ∙ sym (rest_row h l e k) ∙ v
 
   pub rows_stop : {row : Row} {f : Lowest} {place : ℕ} → RestOf header base rows first end i → i < end → end ≤ length rows → row ≡ get_or rows i no_row
-      → f ≡ row_fault header base row → f ≡ At place → At place ≡ rows_fault header base (take (end - first) (drop first rows))
+      → f ≡ row_fault header base row → f ≡ Some place → Some place ≡ rows_fault header base (take (end - first) (drop first rows))
   rows_stop v h l e k t = rest_by v h l e k t
 
   pub rows_on : {row : Row} {f : Lowest} → RestOf header base rows first end i → i < end → end ≤ length rows → row ≡ get_or rows i no_row
-      → f ≡ row_fault header base row → f ≡ Nowhere → RestOf header base rows first end (i + 1)
+      → f ≡ row_fault header base row → f ≡ None → RestOf header base rows first end (i + 1)
   rows_on v h l e k t = rest_by v h l e k t

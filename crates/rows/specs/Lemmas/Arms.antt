@@ -1,6 +1,6 @@
 -- What each arm of the code shows of `legal`, `breaks` and a run's or table's fault.
 -- By the tests that led there; a table's loop by what the rows from row i on give. Assumes nothing.
-use Rattle.std.specs.Prelude.{◌≡◌, Bool, true, false, not, List, leb, eqb, take, drop}
+use Rattle.std.specs.Prelude.{◌≡◌, Bool, true, false, not, List, leb, eqb, take, drop, Some, None}
 use Rattle.std.proofs.Math.Path.{refl, sym, ap}
 use Rattle.std.proofs.Common.{◌∙◌}
 use Prim.Native.Nat.{ℕ, ◌+◌, ◌-◌, ◌*◌, ◌≤◌, ◌<◌}
@@ -9,7 +9,6 @@ use borrow.Author.Tests.{le-leb, lt-leb, eq-eqb, ne_eqb}
 use Rattle.laws.specs.Scan.{lowest}
 use Rattle.laws.specs.Lemmas.Scan.{lowest_stop, lowest-on, lowest_end}
 use Rattle.laws.specs.Reader.{bytes}
-use Rattle.laws.specs.declared.Lowest.TheVariants.{At, Nowhere}
 use Rattle.blocks.specs.Numbers.{number, top, Number}
 use Rattle.blocks.specs.Lemmas.Numbers.{number_next}
 use Rattle.names.specs.Names.{akaii_byte, ascii_byte}
@@ -93,11 +92,11 @@ module _ (header : List ℕ) (base : ℕ) (run : Run) where
   unfolding keeps
   breaks_by j p q e k t h = rw (← h, k, e, q, p) refl
 
-  pub run_stop : {count j place : ℕ} → count ≡ run.count → At j ≡ lowest (breaks header base run) 0 count → place ≡ place_of base run j → At place ≡ run_fault header base run
+  pub run_stop : {count j place : ℕ} → count ≡ run.count → Some j ≡ lowest (breaks header base run) 0 count → place ≡ place_of base run j → Some place ≡ run_fault header base run
   unfolding run_fault
   run_stop e s p = rw p (ap (placed base run) (rw e at s))
 
-  pub run_clean : {count : ℕ} → count ≡ run.count → Nowhere ≡ lowest (breaks header base run) 0 count → Nowhere ≡ run_fault header base run
+  pub run_clean : {count : ℕ} → count ≡ run.count → None ≡ lowest (breaks header base run) 0 count → None ≡ run_fault header base run
   unfolding run_fault
   run_clean e s = ap (placed base run) (rw e at s)
 
@@ -107,10 +106,10 @@ module _ (header : List ℕ) (base at : ℕ) (rule : Rule) where
   byte_by : {place v : ℕ} {b : Bool} → place ≡ at → v ≡ number 1 (bytes header) place → b ≡ legal header base 1 rule v → (t : Bool) → b ≡ t → breaks header base (byte_run at rule) 0 ≡ not t
   byte_by {place} p e k t h = let z : place ≡ place + 1 * 0 = omega arith in sym (breaks_by header base (byte_run at rule) 0 p z e k t h)
 
-  pub byte_stop : {place v : ℕ} {b : Bool} → place ≡ at → v ≡ number 1 (bytes header) place → b ≡ legal header base 1 rule v → b ≡ false → At (base + place) ≡ run_fault header base (byte_run at rule)
+  pub byte_stop : {place v : ℕ} {b : Bool} → place ≡ at → v ≡ number 1 (bytes header) place → b ≡ legal header base 1 rule v → b ≡ false → Some (base + place) ≡ run_fault header base (byte_run at rule)
   byte_stop p e k h = run_stop header base (byte_run at rule) refl (sym (lowest_stop _ 0 1 (omega arith) (byte_by p e k false h))) (ap (λ (x : ℕ). base + x) p)
 
-  pub byte_clean : {place v : ℕ} {b : Bool} → place ≡ at → v ≡ number 1 (bytes header) place → b ≡ legal header base 1 rule v → b ≡ true → Nowhere ≡ run_fault header base (byte_run at rule)
+  pub byte_clean : {place v : ℕ} {b : Bool} → place ≡ at → v ≡ number 1 (bytes header) place → b ≡ legal header base 1 rule v → b ≡ true → None ≡ run_fault header base (byte_run at rule)
   byte_clean p e k h = run_clean header base (byte_run at rule) refl (sym (lowest-on _ 0 1 (omega arith) (byte_by p e k true h) ∙ lowest_end _ 1 1 (omega arith)))
 
 -- ---- a table: the rows from `first` on, below `end`
@@ -124,6 +123,6 @@ abbrev pub RestOf : List ℕ → ℕ → List Row → ℕ → ℕ → ℕ → Ty
 RestOf header base rows first end i = rows_fault header base (take (end - i) (drop i rows)) ≡ rows_fault header base (take (end - first) (drop first rows))
 
 module _ (header : List ℕ) (base : ℕ) (rows : List Row) (first end i : ℕ) where
-  pub rows_clean : RestOf header base rows first end i → end ≤ i → Nowhere ≡ rows_fault header base (take (end - first) (drop first rows))
+  pub rows_clean : RestOf header base rows first end i → end ≤ i → None ≡ rows_fault header base (take (end - first) (drop first rows))
   unfolding rows_fault
   rows_clean v h = let e : end - i ≡ 0 = omega arith in rw e at v

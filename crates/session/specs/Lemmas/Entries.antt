@@ -10,8 +10,7 @@ use Rattle.blocks.specs.Numbers.{Number, digits}
 use Rattle.laws.specs.Lemmas.Padded.{padded_nil}
 use Rattle.record.specs.Record.{Call, list, find, page, put, remove, Answer, Outcome}
 use Rattle.rules.specs.Check.{call_of}
-use Rattle.calls.specs.declared.Listed.{Listed}
-use Rattle.calls.specs.Answers.{listed_of, Lists}
+use Rattle.calls.specs.Answers.{listed_of, Lists, Listed}
 use Rattle.session.specs.declared.Reply.{Reply}
 use Rattle.session.specs.Script.{fits, put_entry, named_entry, entry_call, flag, reply_with, reply_of, reply_bytes, shown_by, after_entry, Entered, entered_by, after_run, run_from}
 
