@@ -44,7 +44,7 @@ fn fill_first(source: &[u8], half: usize, words: &mut [i16])
 {
     let mut i: usize = 0;
     while i < half {
-        let word = first_word(blocks::number2(source, 2 * i) as u16);
+        let word = first_word(blocks::number::<2>(source, 2 * i) as u16);
         words[i] = word;
         i += 1;
     }
@@ -56,7 +56,7 @@ fn fill_second(source: &[u8], half: usize, words: &mut [i16])
 {
     let mut i: usize = 0;
     while i < half {
-        let word = second_word(source[2 * half + i], blocks::number2(source, 2 * i) as u16);
+        let word = second_word(source[2 * half + i], blocks::number::<2>(source, 2 * i) as u16);
         words[half + i] = word;
         i += 1;
     }
@@ -77,7 +77,7 @@ fn fill1000(source: &[u8], count: usize, words: &mut [i16])
 {
     let mut i: usize = 0;
     while i < count {
-        let word = words::word16(blocks::number2(source, 2 * i) as u16);
+        let word = words::word16(blocks::number::<2>(source, 2 * i) as u16);
         words[i] = word;
         i += 1;
     }
@@ -139,7 +139,7 @@ fn store1000(words: &[i16], out: &mut [u8], at: usize)
     let count = words.len();
     let mut i: usize = 0;
     while i < count {
-        blocks::store2(out, at + 2 * i, words::bits16(words[i]) as usize);
+        blocks::store::<2>(out, at + 2 * i, words::bits16(words[i]) as usize);
         i += 1;
     }
 }
@@ -223,7 +223,7 @@ fn count_in(sampler: Sampler, header: &[u8]) -> usize
     requires { length header.now ≡ header_size sampler }
     ensures { Number 4 (bytes header.now) (count_offset sampler) result }
 {
-    blocks::number4(header, count_offset(sampler))
+    blocks::number::<4>(header, count_offset(sampler))
 }
 
 // Whether a number of words is one that the sampler has, and what it makes due is what there is.

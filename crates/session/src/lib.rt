@@ -119,8 +119,8 @@ fn write_reply(shown: &mut [u8], reply: Reply)
 {
     let name = reply.name;
     let end = reply.end;
-    blocks::store3(shown, 0, reply.number);
-    blocks::store3(shown, 3, reply.value);
+    blocks::store::<3>(shown, 0, reply.number);
+    blocks::store::<3>(shown, 3, reply.value);
     shown[6] = reply.letter;
     shown[7] = flag_of(end);
     write_name(shown, name);
@@ -187,8 +187,8 @@ fn run_put(image: &mut [u8], name: &[u8], entry: &[u8], pool: &[u8], shown: &mut
     requires { (length entry.now ≡ 20) × (1044 ≤ length shown.old) }
     ensures { after_entry result shown.new image.new ≡ entered_by (put_entry name.now entry.now pool.now) image.old shown.old }
 {
-    let at = blocks::number4(entry, 12);
-    let size = blocks::number4(entry, 16);
+    let at = blocks::number::<4>(entry, 12);
+    let size = blocks::number::<4>(entry, 16);
     if !is_in(pool.len(), at, size) {
         return false;
     }
@@ -223,8 +223,8 @@ fn run_entry(image: &mut [u8], entry: &[u8], pool: &[u8], shown: &mut [u8]) -> b
     ensures { after_entry result shown.new image.new ≡ entered image.old entry.now pool.now shown.old }
 {
     let op = entry[0];
-    let a = blocks::number4(entry, 4);
-    let b = blocks::number4(entry, 8);
+    let a = blocks::number::<4>(entry, 4);
+    let b = blocks::number::<4>(entry, 8);
     if op == 0 {
         make_list(image, a, shown);
         return true;

@@ -38,7 +38,7 @@ pub fn size_of(head: &[u8], layout: layout::Layout, slot: usize) -> usize
     ensures { result ≡ ((view_of layout (bytes head.now)).entry slot).size }
 {
     let at = layout.directory + 24 * slot;
-    blocks::number3(head, at + 17)
+    blocks::number::<3>(head, at + 17)
 }
 
 pub fn start_of(head: &[u8], layout: layout::Layout, slot: usize) -> usize
@@ -46,7 +46,7 @@ pub fn start_of(head: &[u8], layout: layout::Layout, slot: usize) -> usize
     ensures { result ≡ ((view_of layout (bytes head.now)).entry slot).start }
 {
     let at = layout.directory + 24 * slot;
-    blocks::number2(head, at + 20)
+    blocks::number::<2>(head, at + 20)
 }
 
 // Whether the first directory is passed over: its slot 0 has type byte 255 (refusal 2).
@@ -63,7 +63,7 @@ fn identity_of(head: &[u8], layout: layout::Layout, slot: usize) -> usize
     ensures { result ≡ ((view_of layout (bytes head.now)).entry slot).identity }
 {
     let at = layout.directory + 24 * slot;
-    blocks::number2(head, at + 22)
+    blocks::number::<2>(head, at + 22)
 }
 
 // Whether every slot, empty ones too, has the layout's identity (refusal 2).
@@ -77,7 +77,7 @@ pub fn has_identity(head: &[u8], layout: layout::Layout) -> bool
     let mut slot = 0;
     while slot < slots {
         let at = directory + 24 * slot;
-        if blocks::number2(head, at + 22) != identity {
+        if blocks::number::<2>(head, at + 22) != identity {
             return false;
         }
         slot += 1;
@@ -135,7 +135,7 @@ pub fn key(head: &[u8], at: usize) -> usize
     requires { at + 8 ≤ length head.now }
     ensures { Key (bytes head.now) at result }
 {
-    blocks::number4(head, at) + 4294967296 * blocks::number4(head, at + 4)
+    blocks::number::<4>(head, at) + 4294967296 * blocks::number::<4>(head, at + 4)
 }
 
 // Whether the two halves of a slot's name have these keys and its type is this one. For a file's type no empty slot passes: theirs is 0.

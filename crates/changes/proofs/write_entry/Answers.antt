@@ -32,16 +32,16 @@ unfolding set_entry part
 written img at area type size start own n p q r t =
     rw (t, r, q, p, take_all 16 area (omega arith)) (fields (splice img at area) at type size start own ∙ join img at (at + 16) area _ (omega arith))
 
-pub store3-requires : goal.store3-requires
-store3-requires c = simp length-set (omega arith)
+pub store-requires : goal.store-requires
+store-requires c = simp length-set (omega arith)
 
-pub store2-requires : goal.store2-requires
-store2-requires c = omega (arith, simp length-set at c.store3.auto.target)
+pub store-requires-2 : goal.store-requires-2
+store-requires-2 c = omega (arith, simp length-set at c.store.auto.target)
 
-pub store2-requires-2 : goal.store2-requires-2
-store2-requires-2 c = omega (arith, simp length-set at c.store3.auto.target)
+pub store-requires-3 : goal.store-requires-3
+store-requires-3 c = omega (arith, simp length-set at c.store.auto.target)
 
 pub returns : goal.returns
 returns c =
     let a = c.args in
-    written a.image.now a.at a.area a.letter a.size a.start a.identity (omega arith) c.copy_part.ensures c.store3.ensures c.store2.ensures c.store2-2.ensures
+    written a.image.now a.at a.area a.letter a.size a.start a.identity (omega arith) c.copy_part.ensures c.store.ensures c.store-2.ensures c.store-3.ensures
