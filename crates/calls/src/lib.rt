@@ -14,18 +14,20 @@ ghost use Rattle.rules.specs.Check.{came, salvage_as, call_of};
 ghost use Rattle.calls.specs.Answers.{found_of, found_by, paged_of, Lists, unlisted_by, unpaged_by, list_call, find_call, page_call, put_call, remove_call, salvage_call, removed_of, counted_of};
 ghost use Rattle.calls.specs.Metered.{page_cost, cost_in};
 
+use laws::Refusal;
+
 // A slot, or a refusal.
 #[derive(Clone, Copy)]
 pub enum Found {
     At(usize),
-    Refused(laws::Refusal),
+    Refused(Refusal),
 }
 
 // How many bytes a page has and whether the file ends with them, or a refusal.
 #[derive(Clone, Copy)]
 pub enum Paged {
     Page { count: usize, end: bool },
-    Refused(laws::Refusal),
+    Refused(Refusal),
 }
 
 // What a page answers, and what it cost.
@@ -39,7 +41,7 @@ pub struct Metered {
 #[derive(Clone, Copy)]
 pub enum Removed {
     Done,
-    Refused(laws::Refusal),
+    Refused(Refusal),
 }
 
 // A file's name length, type byte and length, or a refusal.
@@ -50,7 +52,7 @@ pub enum Entry {
         letter: u8,
         length: usize,
     },
-    Refused(laws::Refusal),
+    Refused(Refusal),
 }
 
 // An entry with its name in ASCII, then zeros.
@@ -61,7 +63,7 @@ pub struct Listed {
 }
 
 // A listing without a file.
-fn unlisted(refusal: laws::Refusal) -> Listed
+fn unlisted(refusal: Refusal) -> Listed
     ensures { result ≡ unlisted_by refusal }
 {
     Listed {
@@ -73,10 +75,7 @@ fn unlisted(refusal: laws::Refusal) -> Listed
 fn no_file() -> Listed
     ensures { result ≡ unlisted_by (refusal_at 10 0) }
 {
-    unlisted(laws::Refusal {
-        number: 10,
-        place: 0,
-    })
+    unlisted(Refusal::NoFile)
 }
 
 // Lists a slot of an accepted image: 10 if it is empty or not there.
@@ -119,7 +118,7 @@ fn is_legal(layout: layout::Layout, name: &[u8], letter: u8) -> bool
 }
 
 // The slot of a file of an accepted image by its legal name and type.
-fn slot_named(image: &[u8], layout: layout::Layout, name: &[u8], letter: u8) -> laws::Lowest
+fn slot_named(image: &[u8], layout: layout::Layout, name: &[u8], letter: u8) -> Option<usize>
     requires { LayoutRight layout × DiskRules layout image.now × (is_legal layout name.now letter ≡ true) }
     ensures { result ≡ slot_of layout (files_in layout image.now) name.now letter }
 {
@@ -130,55 +129,43 @@ fn slot_named(image: &[u8], layout: layout::Layout, name: &[u8], letter: u8) -> 
 }
 
 // How find and remove are judged on an accepted image: 11, 10.
-fn judge_name(image: &[u8], layout: layout::Layout, name: &[u8], letter: u8) -> record::Judged
+fn judge_name(image: &[u8], layout: layout::Layout, name: &[u8], letter: u8) -> Result<usize, Refusal>
     requires { LayoutRight layout × DiskRules layout image.now }
     ensures { result ≡ judge_name layout (files_in layout image.now) name.now letter }
 {
     if !is_legal(layout, name, letter) {
-        return record::Judged::Refuse(laws::Refusal {
-            number: 11,
-            place: 0,
-        });
+        return Err(Refusal::IllegalName);
     }
     let found = slot_named(image, layout, name, letter);
     match found {
-        laws::Lowest::At(slot) => record::Judged::Grant(slot),
-        laws::Lowest::Nowhere => record::Judged::Refuse(laws::Refusal {
-            number: 10,
-            place: 0,
-        }),
+        Some(slot) => Ok(slot),
+        None => Err(Refusal::NoFile),
     }
 }
 
 // Find's answer by its judgement.
-fn found_by(judged: record::Judged) -> Found
+fn found_by(judged: Result<usize, Refusal>) -> Found
     ensures { result ≡ found_by judged }
 {
     match judged {
-        record::Judged::Refuse(refusal) => Found::Refused(refusal),
-        record::Judged::Grant(slot) => Found::At(slot),
+        Err(refusal) => Found::Refused(refusal),
+        Ok(slot) => Found::At(slot),
     }
 }
 
 // Put's last refusals, for a content of some length: 15, 16.
-fn judge_room(free: usize, size: usize, slot: usize) -> record::Judged
+fn judge_room(free: usize, size: usize, slot: usize) -> Result<usize, Refusal>
     requires { 1 ≤ size }
     ensures { result ≡ room_for free size slot }
 {
     let wanted = (size - 1) / 1024 + 1;
     if free < wanted {
-        return record::Judged::Refuse(laws::Refusal {
-            number: 15,
-            place: 0,
-        });
+        return Err(Refusal::DiskFull);
     }
     if size > 16777215 {
-        return record::Judged::Refuse(laws::Refusal {
-            number: 16,
-            place: 0,
-        });
+        return Err(Refusal::ContentTooLong);
     }
-    record::Judged::Grant(slot)
+    Ok(slot)
 }
 
 // How put is judged on an accepted image with so many free blocks: 11, 13, 12, 14, 15, 16.
@@ -189,41 +176,29 @@ fn judge_put(
     name: &[u8],
     letter: u8,
     size: usize,
-) -> record::Judged
+) -> Result<usize, Refusal>
     requires { LayoutRight layout × DiskRules layout image.now × (free ≡ free_count layout (map_at (bytes image.now))) }
     ensures { (content : List ℕ) → length content ≡ size → result ≡ judge_put layout (files_in layout image.now) name.now letter content }
 {
     if !is_legal(layout, name, letter) {
-        return record::Judged::Refuse(laws::Refusal {
-            number: 11,
-            place: 0,
-        });
+        return Err(Refusal::IllegalName);
     }
     if size == 0 {
-        return record::Judged::Refuse(laws::Refusal {
-            number: 13,
-            place: 0,
-        });
+        return Err(Refusal::EmptyContent);
     }
     let taken = slot_named(image, layout, name, letter);
-    if let laws::Lowest::At(slot) = taken {
-        return record::Judged::Refuse(laws::Refusal {
-            number: 12,
-            place: slot,
-        });
+    if let Some(slot) = taken {
+        return Err(Refusal::NameTaken(slot));
     }
     let empty = slots::empty_slot(image, layout);
-    let laws::Lowest::At(slot) = empty else {
-        return record::Judged::Refuse(laws::Refusal {
-            number: 14,
-            place: 0,
-        });
+    let Some(slot) = empty else {
+        return Err(Refusal::DirectoryFull);
     };
     judge_room(free, size, slot)
 }
 
 // A page that was refused, for which nothing was followed or copied.
-fn unpaged(refusal: laws::Refusal) -> Metered
+fn unpaged(refusal: Refusal) -> Metered
     ensures { result ≡ unpaged_by refusal }
 {
     Metered {
@@ -246,23 +221,14 @@ fn page_slot(
 {
     let slots = layout.slots;
     if slots <= slot {
-        return unpaged(laws::Refusal {
-            number: 10,
-            place: 0,
-        });
+        return unpaged(Refusal::NoFile);
     }
     if !slots::is_used(image, layout, slot) {
-        return unpaged(laws::Refusal {
-            number: 10,
-            place: 0,
-        });
+        return unpaged(Refusal::NoFile);
     }
     let size = slots::size_of(image, layout, slot);
     if offset > size {
-        return unpaged(laws::Refusal {
-            number: 17,
-            place: 0,
-        });
+        return unpaged(Refusal::OffsetPastEnd);
     }
     let start = slots::start_of(image, layout, slot);
     let count = blocks::least(out.len(), size - offset);
@@ -363,7 +329,7 @@ pub fn put(image: &mut [u8], name: &[u8], letter: u8, content: &[u8]) -> Found
     };
     let layout = layout::layout_of(kind, density);
     let judged = judge_put(image, layout, free, name, letter, content.len());
-    let record::Judged::Grant(slot) = judged else {
+    let Ok(slot) = judged else {
         return found_by(judged);
     };
     let area = names::area_of(layout, name);
@@ -388,8 +354,8 @@ pub fn remove(image: &mut [u8], name: &[u8], letter: u8) -> Removed
     let layout = layout::layout_of(kind, density);
     let judged = judge_name(image, layout, name, letter);
     match judged {
-        record::Judged::Refuse(refusal) => Removed::Refused(refusal),
-        record::Judged::Grant(slot) => {
+        Err(refusal) => Removed::Refused(refusal),
+        Ok(slot) => {
             changes::remove_slot(image, layout, slot);
             Removed::Done
         }
@@ -397,22 +363,19 @@ pub fn remove(image: &mut [u8], name: &[u8], letter: u8) -> Removed
 }
 
 // The salvage run on an image of a known layout: 21.
-fn salvage_known(image: &mut [u8], layout: layout::Layout, report: &mut [u8]) -> laws::Counted
+fn salvage_known(image: &mut [u8], layout: layout::Layout, report: &mut [u8]) -> Result<usize, Refusal>
     requires { LayoutRight layout × (length image.old ≡ image_length layout) }
     ensures { came (counted_of result) report.new image.new ≡ salvage_as layout image.old report.old }
 {
     let slots = layout.slots;
     if report.len() < slots {
-        return laws::Counted::Refused(laws::Refusal {
-            number: 21,
-            place: 0,
-        });
+        return Err(Refusal::OutputTooShort);
     }
-    laws::Counted::Done(mend::salvage(image, layout, report))
+    Ok(mend::salvage(image, layout, report))
 }
 
 // Mends an image: how many map values are others afterwards; what is said of each slot to the front of the report.
-pub fn salvage(image: &mut [u8], report: &mut [u8]) -> laws::Counted
+pub fn salvage(image: &mut [u8], report: &mut [u8]) -> Result<usize, Refusal>
     ensures { came (counted_of result) report.new image.new ≡ call_of image.old (salvage_call report.old) }
 {
     let disk = disk::known(image, image.len());
@@ -421,6 +384,6 @@ pub fn salvage(image: &mut [u8], report: &mut [u8]) -> laws::Counted
             let layout = layout::layout_of(kind, density);
             salvage_known(image, layout, report)
         }
-        rules::Known::Unknown(refusal) => laws::Counted::Refused(refusal),
+        Err(refusal) => Err(refusal),
     }
 }

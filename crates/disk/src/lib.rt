@@ -12,6 +12,8 @@ ghost use Rattle.image.specs.Image.{view_of};
 ghost use Rattle.slots.specs.Forms.{or_used};
 ghost use Rattle.rules.specs.Check.{or_unknown, second_kind, known_kind, known_start, used_count, check_as, check_of, check_start, known_as};
 
+use laws::Refusal;
+
 // Refusals 5 to 9 of an image that 3 and 4 don't refuse and whose used slots are counted, else what the check tells of it.
 fn check_names(
     head: &[u8],
@@ -19,61 +21,52 @@ fn check_names(
     kind: layout::Kind,
     density: layout::Density,
     files: usize,
-) -> rules::Checked
+) -> Result<Accepted, Refusal>
     requires { (head_length ≤ length head.now) × (layout ≡ layout_of kind density) × (lowest (bad_system layout (view_of layout (bytes head.now))) 0 layout.system ≡ None) × (Ok files ≡ or_used (lowest (malformed layout (view_of layout (bytes head.now))) 0 layout.slots) (used_count layout (view_of layout (bytes head.now)))) }
     ensures { result ≡ check_as kind density (bytes head.now) }
 {
     let repeated = slots::name_fault(head, layout);
-    if let laws::Lowest::At(slot) = repeated {
-        return rules::Checked::Refused(laws::Refusal {
-            number: 5,
-            place: slot,
-        });
+    if let Some(slot) = repeated {
+        return Err(Refusal::RepeatedName(slot));
     }
     let chained = chains::chain_rules(head, layout);
     match chained {
-        laws::Counted::Done(free) => rules::Checked::Accepted {
+        Ok(free) => rules::Checked::Accepted {
             kind,
             density,
             files,
             free,
         },
-        laws::Counted::Refused(refusal) => rules::Checked::Refused(refusal),
+        Err(refusal) => Err(refusal),
     }
 }
 
 // The check of an image of a known kind and density: 3, then 4, then the rest.
-fn check_as(head: &[u8], kind: layout::Kind, density: layout::Density) -> rules::Checked
+fn check_as(head: &[u8], kind: layout::Kind, density: layout::Density) -> Result<Accepted, Refusal>
     requires { head_length ≤ length head.now }
     ensures { result ≡ check_as kind density (bytes head.now) }
 {
     let layout = layout::layout_of(kind, density);
     let system = chains::system_fault(head, layout);
-    if let laws::Lowest::At(block) = system {
-        return rules::Checked::Refused(laws::Refusal {
-            number: 3,
-            place: block,
-        });
+    if let Some(block) = system {
+        return Err(Refusal::SystemBlock(block));
     }
     let formed = slots::count_formed(head, layout);
     match formed {
-        laws::Counted::Done(files) => check_names(head, layout, kind, density, files),
-        laws::Counted::Refused(refusal) => rules::Checked::Refused(refusal),
+        Ok(files) => check_names(head, layout, kind, density, files),
+        Err(refusal) => Err(refusal),
     }
 }
 
 // Refusal 2.
-fn no_kind() -> rules::Known
+fn no_kind() -> Result<Format, Refusal>
     ensures { result ≡ Err (refusal_at 2 0) }
 {
-    rules::Known::Unknown(laws::Refusal {
-        number: 2,
-        place: 0,
-    })
+    Err(Refusal::UnknownKind)
 }
 
 // The kind of an image whose first directory is passed over: 2 at low density.
-fn second_kind(density: layout::Density) -> rules::Known
+fn second_kind(density: layout::Density) -> Result<Format, Refusal>
     ensures { result ≡ or_unknown (second_kind density) 2 (λ k. known_as k density) }
 {
     match density {
@@ -86,7 +79,7 @@ fn second_kind(density: layout::Density) -> rules::Known
 }
 
 // The kind of an image of a known density: slot 0's type tells, then the slots' identities; 2 if they are of none.
-fn known_kind(head: &[u8], density: layout::Density) -> rules::Known
+fn known_kind(head: &[u8], density: layout::Density) -> Result<Format, Refusal>
     requires { head_length ≤ length head.now }
     ensures { result ≡ known_kind density (bytes head.now) }
 {
@@ -111,14 +104,11 @@ fn known_kind(head: &[u8], density: layout::Density) -> rules::Known
 }
 
 // What is known of an image by its length, 1, and its directory, 2. The first 17,408 bytes are at hand, or all.
-pub fn known(head: &[u8], length: usize) -> rules::Known
+pub fn known(head: &[u8], length: usize) -> Result<Format, Refusal>
     ensures { result ≡ known_start head.now length }
 {
     if head.len() < 17408 {
-        return rules::Known::Unknown(laws::Refusal {
-            number: 1,
-            place: 0,
-        });
+        return Err(Refusal::WrongLength);
     }
     let low = layout::Density::Low;
     if length == layout::image_length(low) {
@@ -128,25 +118,22 @@ pub fn known(head: &[u8], length: usize) -> rules::Known
     if length == layout::image_length(high) {
         return known_kind(head, high);
     }
-    rules::Known::Unknown(laws::Refusal {
-        number: 1,
-        place: 0,
-    })
+    Err(Refusal::WrongLength)
 }
 
 // The check of an image of which the first 17,408 bytes are at hand, or all, and its length.
-pub fn check_head(head: &[u8], length: usize) -> rules::Checked
+pub fn check_head(head: &[u8], length: usize) -> Result<Accepted, Refusal>
     ensures { result ≡ check_start head.now length }
 {
     let disk = known(head, length);
     match disk {
         rules::Known::Disk { kind, density } => check_as(head, kind, density),
-        rules::Known::Unknown(refusal) => rules::Checked::Refused(refusal),
+        Err(refusal) => Err(refusal),
     }
 }
 
 // The check of an image.
-pub fn check(image: &[u8]) -> rules::Checked
+pub fn check(image: &[u8]) -> Result<Accepted, Refusal>
     ensures { result ≡ check_of image.now }
 {
     check_head(image, image.len())

@@ -182,7 +182,7 @@ fn rows_fault(
     rows: [Row; 131],
     first: usize,
     end: usize,
-) -> laws::Lowest
+) -> Option<usize>
     requires { (base < 4294967296) × (first ≤ end) × (end ≤ 131) }
     ensures { result ≡ rows_fault header.now base (take (end - first) (drop first rows)) }
 {
@@ -190,17 +190,17 @@ fn rows_fault(
     while i < end {
         let row = rows[i];
         let fault = rows::row_fault(header, base, row);
-        if let laws::Lowest::At(place) = fault {
-            return laws::Lowest::At(place);
+        if let Some(place) = fault {
+            return Some(place);
         }
         i += 1;
     }
-    laws::Lowest::Nowhere
+    None
 }
 
 // The lowest place, an offset of the file, where a header that starts at offset `base` breaks its table. The unpackers and packers of samples
 // call it at 0, the check of a program at 150 k for part k.
-pub fn fault(header: &[u8], base: usize, table: Table) -> laws::Lowest
+pub fn fault(header: &[u8], base: usize, table: Table) -> Option<usize>
     requires { base < 4294967296 }
     ensures { result ≡ rows_fault header.now base (rows_of table) }
 {

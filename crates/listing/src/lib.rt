@@ -14,6 +14,7 @@ ghost use Rattle.listing.specs.Listing.{decimal, density_word, refused_text, che
 ghost use Rattle.listing.specs.Lines.{slot_answer, lines_of};
 ghost use Rattle.listing.specs.Puts.{Puts, Fills};
 
+use laws::Refusal;
 use std::io::{Print, Read, Result};
 use std::rt::{Stdin, Stdout};
 
@@ -85,7 +86,7 @@ fn put_number(word: &[u8], number: usize, out: &mut [u8; 24576], at: usize) -> u
 }
 
 // A refusal, without its line's end.
-pub fn put_refused(refusal: laws::Refusal, out: &mut [u8; 24576], at: usize) -> usize
+pub fn put_refused(refusal: Refusal, out: &mut [u8; 24576], at: usize) -> usize
     requires { at ≤ 24576 }
     ensures { Puts 52 (refused_text refusal) at out.old out.new result }
 {
@@ -130,7 +131,7 @@ pub fn put_checked(checked: rules::Checked, out: &mut [u8; 24576], at: usize) ->
             let next = put_number(b" files ", files, out, next);
             put_number(b" free ", free, out, next)
         }
-        rules::Checked::Refused(refusal) => put_refused(refusal, out, at),
+        Err(refusal) => put_refused(refusal, out, at),
     }
 }
 

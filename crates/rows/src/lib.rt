@@ -211,7 +211,7 @@ fn place_of(base: usize, run: Run, j: usize) -> usize
 }
 
 // The lowest place of a run where its rule is broken.
-fn run_fault(header: &[u8], base: usize, run: Run) -> laws::Lowest
+fn run_fault(header: &[u8], base: usize, run: Run) -> Option<usize>
     requires { base < 4294967296 }
     ensures { result ≡ run_fault header.now base run }
 {
@@ -219,28 +219,28 @@ fn run_fault(header: &[u8], base: usize, run: Run) -> laws::Lowest
     let mut j: usize = 0;
     while j < count {
         if is_broken(header, base, run, j) {
-            return laws::Lowest::At(place_of(base, run, j));
+            return Some(place_of(base, run, j));
         }
         j += 1;
     }
-    laws::Lowest::Nowhere
+    None
 }
 
 // One byte, without a run: most rows are such.
-fn byte_fault(header: &[u8], base: usize, at: u16, rule: Rule) -> laws::Lowest
+fn byte_fault(header: &[u8], base: usize, at: u16, rule: Rule) -> Option<usize>
     requires { base < 4294967296 }
     ensures { result ≡ run_fault header.now base (byte_run at rule) }
 {
     let place = figure(at);
     let v = number(header, place, Width::One);
     if is_legal(header, base, Width::One, rule, v) {
-        return laws::Lowest::Nowhere;
+        return None;
     }
-    laws::Lowest::At(base + place)
+    Some(base + place)
 }
 
 // Bytes, each its own place.
-fn each_fault(header: &[u8], base: usize, at: u16, count: u16, rule: Rule) -> laws::Lowest
+fn each_fault(header: &[u8], base: usize, at: u16, count: u16, rule: Rule) -> Option<usize>
     requires { base < 4294967296 }
     ensures { result ≡ run_fault header.now base (each_run at count rule) }
 {
@@ -262,7 +262,7 @@ fn group_fault(
     count: u16,
     width: Width,
     rule: Rule,
-) -> laws::Lowest
+) -> Option<usize>
     requires { base < 4294967296 }
     ensures { result ≡ run_fault header.now base (group_run at count width rule) }
 {
@@ -277,7 +277,7 @@ fn group_fault(
 }
 
 // The lowest place where a header breaks a row.
-pub fn row_fault(header: &[u8], base: usize, row: Row) -> laws::Lowest
+pub fn row_fault(header: &[u8], base: usize, row: Row) -> Option<usize>
     requires { base < 4294967296 }
     ensures { result ≡ row_fault header.now base row }
 {

@@ -8,6 +8,8 @@ ghost use Rattle.rules.specs.Check.{call_of};
 ghost use Rattle.calls.specs.Answers.{found_of, paged_of, listed_of, removed_of, list_call, find_call, page_call, put_call, remove_call};
 ghost use Rattle.session.specs.Script.{fits, flag, reply_with, reply_of, reply_bytes, shown_by, after_entry, put_entry, named_entry, entered_by, entered, after_run, run_of};
 
+use laws::Refusal;
+
 // An answer with the fields of all answers: refusal or 0, place or value, type, whether the end is reached, name.
 #[derive(Clone, Copy)]
 pub struct Reply {
@@ -19,7 +21,7 @@ pub struct Reply {
 }
 
 // A refusal's reply.
-fn refused_reply(refusal: laws::Refusal) -> Reply
+fn refused_reply(refusal: Refusal) -> Reply
     ensures { result ≡ reply_of (refused_by refusal) }
 {
     Reply {

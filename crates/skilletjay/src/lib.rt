@@ -12,6 +12,7 @@ ghost use Rattle.program.specs.Program.{program_of};
 ghost use Rattle.skilletjay.specs.Told.{told_of, checked, listed, found, paged, placed, removed, salvaged};
 ghost use Rattle.skilletjay.specs.Results.{checked_result, listed_with, found_result, paged_result, done_result, counted_result};
 
+use laws::Refusal;
 use samples::Sampler;
 
 // sj_checked: kind 900 or 1000, density 0 low or 1 high, the number of files and of free blocks.
@@ -112,7 +113,7 @@ fn checked_result(checked: rules::Checked) -> CChecked
             files,
             free,
         },
-        rules::Checked::Refused(refusal) => CChecked {
+        Err(refusal) => CChecked {
             refusal: refusal.number,
             place: refusal.place,
             kind: 0,
@@ -206,16 +207,16 @@ fn done_result(removed: calls::Removed) -> CDone
 }
 
 // What C gets of a call that gives a count.
-fn counted_result(counted: laws::Counted) -> CCounted
+fn counted_result(counted: Result<usize, Refusal>) -> CCounted
     ensures { result ≡ counted_result counted }
 {
     match counted {
-        laws::Counted::Done(count) => CCounted {
+        Ok(count) => CCounted {
             refusal: 0,
             place: 0,
             count,
         },
-        laws::Counted::Refused(refused) => CCounted {
+        Err(refused) => CCounted {
             refusal: refused.number,
             place: refused.place,
             count: 0,
