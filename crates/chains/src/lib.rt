@@ -229,10 +229,7 @@ pub fn chain_rules(head: &[u8], layout: layout::Layout) -> Result<usize, Refusal
     ensures { result ≡ or_free (chain_rules layout (view_of layout (bytes head.now))) (free_count layout (map_at (bytes head.now))) }
 {
     let mut marks = [false; 1600];
-    let fault = chain_fault(head, layout, &mut marks);
-    if let Err(refusal) = fault {
-        return Err(refusal);
-    }
+    chain_fault(head, layout, &mut marks)?;
     let marked = count_marked(layout, &marks);
     let shared = shared_slot(head, layout, marked);
     if let Some(slot) = shared {
