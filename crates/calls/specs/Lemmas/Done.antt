@@ -24,13 +24,13 @@ use Rattle.record.proofs.Lemmas.Update.{put_slot, content_some, remove_slot}
 use Rattle.rules.specs.Check.{came, check_of, call_of, Checked, accepting}
 use Rattle.rules.proofs.Accepts.{accepted-rules, accepted_counts}
 use Rattle.rules.specs.Lemmas.States.{step_list, step_find, step_put, step_remove, step_page}
-use Rattle.calls.specs.Answers.{found_of, found_by, Found}
+use Rattle.calls.specs.Answers.{found_of}
 use Rattle.calls.specs.Metered.{page_cost, cost_in}
 use Rattle.calls.specs.Lemmas.Answers.{call_accepted}
 use Rattle.calls.specs.Lemmas.Paging.{size_some}
 
--- find's answer by its judgement
-found-came : {img : List ℕ} (j : Judged) → came (found_of (found_by j)) [] img ≡ finding img j
+-- find's answer is its judgement
+found-came : {img : List ℕ} (j : Judged) → came (found_of j) [] img ≡ finding img j
 found-came (Err r) = refl
 found-came (Ok s) = refl
 
@@ -48,6 +48,10 @@ module _ (img : List ℕ) {c : Checked} {k : Kind} {d : Density} {f n : ℕ} (ch
   pub done-rules : DiskRules l img
   done-rules = rw made (accepted-rules k d f n img (sym checked ∙ yes))
 
+  -- what the steps on an accepted image ask for
+  pub done_needs : LayoutRight l × DiskRules l img
+  done_needs = (done-right, done-rules)
+
   -- its free blocks are those that the check gave
   pub done-free : n ≡ free_count l (map_at (bytes img))
   done-free = rw made (accepted_counts k d f n img (sym checked ∙ yes)).1
@@ -55,9 +59,8 @@ module _ (img : List ℕ) {c : Checked} {k : Kind} {d : Density} {f n : ℕ} (ch
   pub list_done : (s : ℕ) → listing img (file_at l (files_in l img) s) ≡ call_of img (list s)
   list_done s = rw made (sym (call_accepted img (list s) checked yes ∙ step_list (shape_of k d) img s))
 
-  pub find_done : (name : List ℕ) (type : ℕ) {j : Judged} {r : Found} → j ≡ judge_name l (files_in l img) name type → r ≡ found_by j → came (found_of r) [] img ≡ call_of img (find name type)
-  find_done name type {j} e t =
-      rw t (found-came j ∙ rw (e, made) (sym (call_accepted img (find name type) checked yes ∙ step_find (shape_of k d) img name type)))
+  pub find_done : (name : List ℕ) (type : ℕ) {j : Judged} → j ≡ judge_name l (files_in l img) name type → came (found_of j) [] img ≡ call_of img (find name type)
+  find_done name type {j} e = found-came j ∙ rw (e, made) (sym (call_accepted img (find name type) checked yes ∙ step_find (shape_of k d) img name type))
 
   pub page-done : (s offset : ℕ) (out : List ℕ) → paging img (file_at l (files_in l img) s) offset out ≡ call_of img (page s offset out)
   page-done s offset out = rw made (sym (call_accepted img (page s offset out) checked yes ∙ step_page (shape_of k d) img s offset out))
@@ -71,11 +74,8 @@ module _ (img : List ℕ) {c : Checked} {k : Kind} {d : Density} {f n : ℕ} (ch
     put_is : putting img (λ s. put_image l img s name type content) j ≡ call_of img (put name type content)
     put_is = rw (judged, made) (sym (call_accepted img (put name type content) checked yes ∙ step_put (shape_of k d) img name type content))
 
-    put_refused : {w : Refusal} → j ≡ Err w → came (refused_by w) [] img ≡ call_of img (put name type content)
+    pub put_refused : {w : Refusal} → j ≡ Err w → came (refused_by w) [] img ≡ call_of img (put name type content)
     put_refused e = rw e at put_is
-
-    pub put_found : {w : Refusal} {r : Found} → j ≡ Err w → r ≡ found_by j → came (found_of r) [] img ≡ call_of img (put name type content)
-    put_found e t = rw (t, e) (put_refused e)
 
     pub put_granted : {s : ℕ} {after : List ℕ} → j ≡ Ok s → after ≡ put_image l img s name type content → came (valued s) [] after ≡ call_of img (put name type content)
     put_granted e t = rw t (rw e at put_is)

@@ -1,8 +1,8 @@
 -- Put's judgement step by step, as the code takes it.
 -- On a valid disk the record's empty slot and free blocks are those of the entries and the map. Assumes nothing.
-use Rattle.std.specs.Prelude.{◌≡◌, refl, true, false, List, ℕ, ◌≤◌, ◌<◌, length, Ok, Some, None}
+use Rattle.std.specs.Prelude.{◌≡◌, refl, true, false, List, ℕ, ◌≤◌, ◌<◌, length, Ok, Some, None, ok_or, Err}
 use Rattle.std.proofs.Math.Path.{sym}
-use Rattle.std.proofs.Common.{ap₂, ◌∙◌, arith, lt-ltb, le-ltb}
+use Rattle.std.proofs.Common.{ap₂, ◌∙◌, arith, lt-ltb, le-ltb, ap}
 use Rattle.std.proofs.Math.Bool.{not}
 use Rattle.laws.specs.Scan.{lowest, Lowest}
 use Rattle.laws.specs.Lemmas.Scan.{lowest_cong}
@@ -16,6 +16,8 @@ use Rattle.image.specs.Image.{view_of, files_in, DiskRules}
 use Rattle.record.specs.Record.{refuse, is_legal, is_empty, slot_of, empty_slot, judge_put, Judged}
 use Rattle.record.specs.Order.{room_for, order_unfit, order_empty, order_taken, order_full, order_room}
 use Rattle.record.specs.Lemmas.Update.{empty_used, free_is}
+use Rattle.laws.specs.Refusals.{refusal_at}
+use Rattle.laws.specs.declared.Refusal.{Refusal}
 
 -- wanted is how many blocks a content of this size needs
 module _ (free size slot wanted : ℕ) (needs : wanted ≡ blocks_for size) where
@@ -50,8 +52,23 @@ module _ (l : Layout) (right : LayoutRight l) (img : List ℕ) (rules : DiskRule
             lowest_cong (λ s. is_empty (files_in l img s)) (λ s. not (used ((view_of l (bytes img)).entry s))) 0 l.slots
             (λ s p q. empty_used l (view_of l (bytes img)) s (omega arith)) ∙ sym found
 
-        pub put_full : empty ≡ None → refuse 14 0 ≡ judge_put l (files_in l img) name type content
+        put_full : empty ≡ None → refuse 14 0 ≡ judge_put l (files_in l img) name type content
         put_full e = sym (order_full l (files_in l img) name type content legal nonzero (sym slot ∙ new) (empty_slot_is ∙ e))
+
+        -- the slot asked for, or its refusal
+        pub put_none : {q : Judged} {w : Refusal} → q ≡ ok_or empty (refusal_at 14 0) → q ≡ Err w → Err w ≡ judge_put l (files_in l img) name type content
+        put_none {q} {w} asked e = go empty refl
+          where
+            go : (x : Lowest) → empty ≡ x → Err w ≡ judge_put l (files_in l img) name type content
+            go (Some s) z = absurd (let y : ◌≡◌ {A = Judged} (Err w) (Ok s) = sym e ∙ asked ∙ rw z refl in let o : ◌≡◌ {A = ℕ} 0 1 = cc in omega arith)
+            go None z = sym e ∙ asked ∙ rw z (put_full z)
+
+        pub put_some : {q : Judged} {s : ℕ} → q ≡ ok_or empty (refusal_at 14 0) → q ≡ Ok s → empty ≡ Some s
+        put_some {q} {s} asked e = go empty refl
+          where
+            go : (x : Lowest) → empty ≡ x → empty ≡ Some s
+            go (Some t) z = let y : ◌≡◌ {A = Judged} (Ok t) (Ok s) = sym (asked ∙ rw z refl) ∙ e in let t : t ≡ s = cc in z ∙ ap Some t
+            go None z = absurd (let y : ◌≡◌ {A = Judged} (Err (refusal_at 14 0)) (Ok s) = sym (asked ∙ rw z refl) ∙ e in let o : ◌≡◌ {A = ℕ} 0 1 = cc in omega arith)
 
         pub put_room : {s : ℕ} {r : Judged} {blocks : ℕ} → empty ≡ Some s → blocks ≡ free_count l (map_at (bytes img)) → r ≡ room_for blocks size s
             → r ≡ judge_put l (files_in l img) name type content
