@@ -115,21 +115,16 @@ fn put_density(density: layout::Density, out: &mut [u8; 24576], at: usize) -> us
 }
 
 // The check's answer, without its line's end.
-pub fn put_checked(checked: rules::Checked, out: &mut [u8; 24576], at: usize) -> usize
+pub fn put_checked(checked: Result<Accepted, Refusal>, out: &mut [u8; 24576], at: usize) -> usize
     requires { at ≤ 24576 }
     ensures { Puts 79 (check_text (answer_of checked)) at out.old out.new result }
 {
     match checked {
-        rules::Checked::Accepted {
-            kind,
-            density,
-            files,
-            free,
-        } => {
-            let next = put_number(b"S", kind_number(kind), out, at);
-            let next = put_density(density, out, next);
-            let next = put_number(b" files ", files, out, next);
-            put_number(b" free ", free, out, next)
+        Ok(disk) => {
+            let next = put_number(b"S", kind_number(disk.kind), out, at);
+            let next = put_density(disk.density, out, next);
+            let next = put_number(b" files ", disk.files, out, next);
+            put_number(b" free ", disk.free, out, next)
         }
         Err(refusal) => put_refused(refusal, out, at),
     }
@@ -206,17 +201,12 @@ pub fn lines(head: &[u8], length: usize, out: &mut [u8; 24576]) -> usize
     let checked = disk::check_head(head, length);
     let next = put_checked(checked, out, 0);
     let next = put(b"\n", out, next);
-    let rules::Checked::Accepted {
-        kind,
-        density,
-        files,
-        free: _,
-    } = checked
+    let Ok(disk) = checked
     else {
         return next;
     };
-    let next = put_slots(head, layout::layout_of(kind, density), out, next);
-    let next = put_number(b"end ", files, out, next);
+    let next = put_slots(head, layout::layout_of(disk.kind, disk.density), out, next);
+    let next = put_number(b"end ", disk.files, out, next);
     put(b"\n", out, next)
 }
 

@@ -27,12 +27,12 @@ use Rattle.view.specs.Disk.{used, entry_chain, chain_of, files_of}
 use Rattle.image.specs.Image.{view_of, files_in, PassedOver, InUse, DiskRules}
 use Rattle.record.specs.Record.{Call, list, find, refused_by, Outcome, named, refuse_if, or_refuse, is_legal, slot_of, file_at, judge_name, listing, Judged}
 use Rattle.record.specs.Lemmas.Step.{list_output}
-use Rattle.rules.specs.Check.{check_of, refusal_of, lent, came, unaccepted, call_of, Checked, accepting}
+use Rattle.rules.specs.Check.{check_of, lent, came, unaccepted, call_of, Checked, accepting}
 use Rattle.rules.specs.Accepted.{length_of_is}
 use Rattle.rules.proofs.Accepts.{accepted-rules}
 use Rattle.rules.specs.Head.{Read, read_head, head_agree, same_map, same-entry}
 use Rattle.rules.proofs.Head.{check_reads}
-use Rattle.calls.specs.Answers.{found_of, found_by}
+use Rattle.calls.specs.Answers.{found_of}
 use Rattle.calls.specs.Lemmas.Answers.{call_refused}
 use Rattle.calls.specs.Lemmas.Slots.{file_above, file_empty, file-used, file-length}
 use Rattle.calls.specs.Lemmas.Done.{list_done, find_done}
@@ -156,11 +156,10 @@ module _ (x y : List ℕ) (same : SameRead x y) where
   -- c being a call that a refused image answers with the check's refusal
   pub refused_alike : {r : Refusal} → check_of x ≡ Err r → (c : Call) → ((z : List ℕ) (q : Refusal) → unaccepted q z c ≡ came (refused_by q) (lent c) z) → Alike x y c
   refused_alike e c plain =
-      let a = sym (plain x _) ∙ call_refused x c refl e refl in
-      let b = sym (plain y _) ∙ call_refused y c refl (check_same x y same ∙ e) refl in
-      let t = check_same x y same in
+      let a = sym (plain x _) ∙ call_refused x c refl e in
+      let b = sym (plain y _) ∙ call_refused y c refl (check_same x y same ∙ e) in
       record {
-        answer = ap (λ (o : Outcome (List ℕ)). o.answer) (sym b) ∙ ap (λ (w : Checked). refused_by (refusal_of w)) t ∙ ap (λ (o : Outcome (List ℕ)). o.answer) a;
+        answer = ap (λ (o : Outcome (List ℕ)). o.answer) (sym b) ∙ ap (λ (o : Outcome (List ℕ)). o.answer) a;
         output = ap (λ (o : Outcome (List ℕ)). o.output) (sym b) ∙ ap (λ (o : Outcome (List ℕ)). o.output) a;
       }
 
@@ -186,10 +185,10 @@ module _ (x y : List ℕ) (same : SameRead x y) where
       go : (c : Checked) → check_of x ≡ c → Alike x y (find name type)
       go (Err r) e = refused_alike e (find name type) (λ z q. refl)
       go (Ok disk) e =
-          let a = find_done x refl e refl name type refl refl in
-          let b = find_done y refl (check_same x y same ∙ e) refl name type refl refl in
+          let a = find_done x refl e refl name type refl in
+          let b = find_done y refl (check_same x y same ∙ e) refl name type refl in
           record {
-            answer = ap (λ (o : Outcome (List ℕ)). o.answer) (sym b) ∙ ap (λ (j : Judged). found_of (found_by j)) (judge_same x y same e name type) ∙ ap (λ (o : Outcome (List ℕ)). o.answer) a;
+            answer = ap (λ (o : Outcome (List ℕ)). o.answer) (sym b) ∙ ap (λ (j : Judged). found_of j) (judge_same x y same e name type) ∙ ap (λ (o : Outcome (List ℕ)). o.answer) a;
             output = ap (λ (o : Outcome (List ℕ)). o.output) (sym b) ∙ ap (λ (o : Outcome (List ℕ)). o.output) a;
           }
 

@@ -10,6 +10,7 @@ ghost use Rattle.image.specs.Image.{DiskRules};
 ghost use Rattle.locate.specs.Locate.{file_blocks, storing, blocks_of};
 
 use laws::Refusal;
+use rules::Accepted;
 
 // Copies blocks to the output's front.
 fn copy_blocks(list: &[u16], out: &mut [u16])
@@ -51,16 +52,11 @@ fn slot_blocks(image: &[u8], layout: layout::Layout, slot: usize, out: &mut [u16
 pub fn file_blocks(image: &[u8], slot: usize, out: &mut [u16]) -> Result<usize, Refusal>
     ensures { filled result out.new ≡ blocks_of image.now slot out.old }
 {
-    let checked = disk::check(image);
-    let rules::Checked::Accepted {
+    let Accepted {
         kind,
         density,
-        files: _,
-        free: _,
-    } = checked
-    else {
-        return Err(rules::refusal_of(checked));
-    };
+        ..
+    } = disk::check(image)?;
     let layout = layout::layout_of(kind, density);
     slot_blocks(image, layout, slot, out)
 }

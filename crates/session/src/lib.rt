@@ -5,9 +5,10 @@ ghost use Rattle.std.specs.Prelude.{◌≡◌, ◌≤◌, length};
 ghost use Rattle.laws.specs.Splice.{splice, part};
 ghost use Rattle.record.specs.Record.{refused_by, paged};
 ghost use Rattle.rules.specs.Check.{call_of};
-ghost use Rattle.calls.specs.Answers.{found_of, paged_of, listed_of, removed_of, list_call, find_call, page_call, put_call, remove_call};
+ghost use Rattle.calls.specs.Answers.{found_of, paged_of, listed_of, removed_of, list_call, find_call, page_call, put_call, remove_call, name_in};
 ghost use Rattle.session.specs.Script.{fits, flag, reply_with, reply_of, reply_bytes, shown_by, after_entry, put_entry, named_entry, entered_by, entered, after_run, run_of};
 
+use calls::{Entry, Piece};
 use laws::Refusal;
 
 // An answer with the fields of all answers: refusal or 0, place or value, type, whether the end is reached, name.
@@ -25,8 +26,8 @@ fn refused_reply(refusal: Refusal) -> Reply
     ensures { result ≡ reply_of (refused_by refusal) }
 {
     Reply {
-        number: refusal.number as usize,
-        value: refusal.place,
+        number: refusal.number() as usize,
+        value: refusal.place(),
         letter: 0,
         end: false,
         name: [0; 12],
@@ -46,57 +47,48 @@ fn value_reply(value: usize, end: bool) -> Reply
     }
 }
 
-fn listed_reply(listed: calls::Listed) -> Reply
-    ensures { result ≡ reply_with (listed_of listed) listed.name }
+fn listed_reply(listed: Result<Entry, Refusal>) -> Reply
+    ensures { result ≡ reply_with (listed_of listed) (name_in listed) }
 {
-    let entry = listed.entry;
-    let name = listed.name;
-    match entry {
-        calls::Entry::File {
-            letters: _,
-            letter,
-            length,
-        } => Reply {
-            number: 0,
-            value: length,
-            letter,
-            end: false,
-            name,
-        },
-        calls::Entry::Refused(refusal) => Reply {
-            number: refusal.number as usize,
-            value: refusal.place,
-            letter: 0,
-            end: false,
-            name,
-        },
+    match listed {
+        Ok(entry) => {
+            let name = entry.name;
+            Reply {
+                number: 0,
+                value: entry.length,
+                letter: entry.letter,
+                end: false,
+                name,
+            }
+        }
+        Err(refusal) => refused_reply(refusal),
     }
 }
 
-fn found_reply(found: calls::Found) -> Reply
+fn found_reply(found: Result<usize, Refusal>) -> Reply
     ensures { result ≡ reply_of (found_of found) }
 {
     match found {
-        calls::Found::At(slot) => value_reply(slot, false),
-        calls::Found::Refused(refusal) => refused_reply(refusal),
+        Ok(slot) => value_reply(slot, false),
+        Err(refusal) => refused_reply(refusal),
     }
 }
 
-fn paged_reply(paged: calls::Paged) -> Reply
+fn paged_reply(paged: Result<Piece, Refusal>) -> Reply
     ensures { result ≡ reply_of (paged_of paged) }
 {
     match paged {
-        calls::Paged::Page { count, end } => value_reply(count, end),
-        calls::Paged::Refused(refusal) => refused_reply(refusal),
+        Ok(piece) => value_reply(piece.count, piece.end),
+        Err(refusal) => refused_reply(refusal),
     }
 }
 
-fn removed_reply(removed: calls::Removed) -> Reply
+fn removed_reply(removed: Result<(), Refusal>) -> Reply
     ensures { result ≡ reply_of (removed_of removed) }
 {
     match removed {
-        calls::Removed::Done => value_reply(0, false),
-        calls::Removed::Refused(refusal) => refused_reply(refusal),
+        Ok(()) => value_reply(0, false),
+        Err(refusal) => refused_reply(refusal),
     }
 }
 

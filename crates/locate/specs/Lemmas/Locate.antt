@@ -16,7 +16,7 @@ use Rattle.map.specs.Map.{map_at, chain, Collected}
 use Rattle.map.specs.Lemmas.Chains.{length-chain}
 use Rattle.view.specs.Disk.{used, entry_chain, chain_of}
 use Rattle.image.specs.Image.{view_of}
-use Rattle.rules.specs.Check.{check_of, refusal_of, Checked, accepting}
+use Rattle.rules.specs.Check.{check_of, Checked, accepting}
 use Rattle.locate.specs.Locate.{file_blocks, storing, blocks_of}
 
 -- ---- the code's steps
@@ -58,9 +58,9 @@ module _ (l : Layout) (img : List ℕ) (s : ℕ) (inside : s < l.slots) (here : 
 -- ---- by the check's answer
 
 module _ (img : List ℕ) (s : ℕ) (out : List ℕ) {c : Checked} (checked : c ≡ check_of img) where
-  pub blocks_refused : {r q : Refusal} → c ≡ Err r → q ≡ refusal_of c → filled (Err q) out ≡ blocks_of img s out
+  pub blocks_refused : {r : Refusal} → c ≡ Err r → filled (Err r) out ≡ blocks_of img s out
   unfolding blocks_of
-  blocks_refused e t = rw (← checked, t, e) refl
+  blocks_refused e = rw (← checked, e) refl
 
   pub blocks_done : {k : Kind} {d : Density} {f n : ℕ} → c ≡ accepting k d f n → {l : Layout} → l ≡ layout_of k d → storing (file_blocks l img s) out ≡ blocks_of img s out
   unfolding blocks_of
