@@ -45,7 +45,7 @@ pub fn to_ascii(code: u8) -> Option<u8>
 }
 
 // Whether a number is an AKAII code, a byte of names in S1000 files.
-#[tactic(auto, using(crate::proofs::Tests::contained, crate::specs::NameLaws::akaii_within))]
+#[tactic(auto, using(laws::proofs::Tests::within_told, crate::specs::NameLaws::akaii_within))]
 pub fn is_akaii(number: usize) -> bool
     ensures { result ≡ akaii_byte number }
 {
@@ -53,7 +53,7 @@ pub fn is_akaii(number: usize) -> bool
 }
 
 // Whether a number is an ASCII byte of names in S900 files.
-#[tactic(auto, using(crate::proofs::Tests::contained), unfolding(crate::specs::Names::ascii_byte))]
+#[tactic(auto, using(laws::proofs::Tests::within_told), unfolding(crate::specs::Names::ascii_byte))]
 pub fn is_ascii(number: usize) -> bool
     ensures { result ≡ ascii_byte number }
 {
@@ -61,7 +61,7 @@ pub fn is_ascii(number: usize) -> bool
 }
 
 // Whether a byte is legal in a name on the disk.
-#[tactic(auto, using(crate::proofs::Tests::contained), unfolding(crate::specs::Names::stored_byte))]
+#[tactic(auto, using(laws::proofs::Tests::within_told), unfolding(crate::specs::Names::stored_byte))]
 pub fn is_stored(layout: layout::Layout, byte: u8) -> bool
     ensures { result ≡ stored_byte layout byte }
 {
@@ -80,7 +80,7 @@ pub fn is_given(layout: layout::Layout, byte: u8) -> bool
 }
 
 // Whether a type byte is legal.
-#[tactic(auto, using(crate::proofs::Tests::contained), unfolding(crate::specs::Names::legal_type))]
+#[tactic(auto, using(laws::proofs::Tests::within_told), unfolding(crate::specs::Names::legal_type))]
 pub fn is_type(layout: layout::Layout, letter: u8) -> bool
     ensures { result ≡ legal_type layout letter }
 {

@@ -3,7 +3,7 @@
 use borrow.Author.Tests.{tests}
 use Rattle.std.proofs.Common.{rules}
 use Rattle.names.specs.Names.{stored_byte}
-use Rattle.names.proofs.Tests.{all_told}
+use Rattle.laws.proofs.Tests.{all_told}
 use Rattle.names.proofs.is_front.Goals as goal
 
 pub returns : goal.returns

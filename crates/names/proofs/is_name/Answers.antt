@@ -3,7 +3,7 @@
 use Rattle.std.proofs.Common.{refl, ◌∙◌, rules, length, eq-eqb, ne_eqb}
 use borrow.Author.Tests.{tests}
 use Rattle.names.specs.Names.{given_byte, legal_name}
-use Rattle.names.proofs.Tests.{all_told}
+use Rattle.laws.proofs.Tests.{all_told}
 use Rattle.names.proofs.is_name.Goals as goal
 
 pub returns-then-name-layout : goal.returns-then-name-layout

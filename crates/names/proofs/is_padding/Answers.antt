@@ -7,7 +7,7 @@ use Rattle.laws.specs.Truth.{both}
 use Rattle.layout.specs.declared.Layout.{Layout}
 use Rattle.layout.specs.Right.{LayoutRight}
 use Rattle.names.specs.Names.{padding}
-use Rattle.names.proofs.Tests.{all_told}
+use Rattle.laws.proofs.Tests.{all_told}
 use Rattle.names.proofs.is_padding.Goals as goal
 
 both_yes : (a : Bool) → both a true ≡ a
