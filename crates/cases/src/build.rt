@@ -98,11 +98,7 @@ pub(crate) fn set_data(image: &mut Image, block: usize, count: usize, first: usi
 
 // A byte in AKAII, 0 if it has no image.
 fn akaii(byte: u8) -> usize {
-    let converted = names::to_akaii(byte);
-    match converted {
-        names::Converted::Byte(code) => code as usize,
-        names::Converted::NoImage => 0,
-    }
+    names::to_akaii(byte).map_or(0, usize::from)
 }
 
 // A name's byte as the kind stores it.

@@ -35,7 +35,6 @@ use Rattle.layout.specs.Layouts.{layout_of, length_of, data_blocks, slot_offset,
 use Rattle.layout.specs.Right as right
 use Rattle.layout.proofs.Right.{layout_right}
 use Rattle.blocks.specs.Blocks.{blocks_for}
-use Rattle.names.specs.declared.Converted.TheVariants.{Byte}
 use Rattle.names.specs.Akaii.{akaii_of, ascii_of, capital}
 use Rattle.names.specs.Akaii as akaii
 use Rattle.names.specs.Names.{to_disk, padding, legal_name, legal_type, legal_area, area_of, name_of, capitals}
@@ -318,13 +317,13 @@ old_mark_stray d v block inside e unowned = (refl, inside, λ z. omega arith, un
 -- ---- Request two: names may be typed in small letters on S1000 disks
 
 -- A code's byte has that code, as before; a byte's code is its capital's, so there and back is the capital.
-pub code_back : (code byte : ℕ) → ascii_of code ≡ Byte byte → akaii_of byte ≡ Byte code
+pub code_back : (code byte : ℕ) → ascii_of code ≡ Some byte → akaii_of byte ≡ Some code
 code_back = akaii.ascii_back
 
 pub byte_folded : (byte : ℕ) → akaii_of (capital byte) ≡ akaii_of byte
 byte_folded = akaii.akaii_capital
 
-pub byte_back : (byte code : ℕ) → akaii_of byte ≡ Byte code → ascii_of code ≡ Byte (capital byte)
+pub byte_back : (byte code : ℕ) → akaii_of byte ≡ Some code → ascii_of code ≡ Some (capital byte)
 byte_back = akaii.akaii_back
 
 -- The capitals of a name: on S1000 disks byte by byte, on S900 disks the name itself.

@@ -1,1 +1,2 @@
 pub mod Lemmas
+pub mod Tests

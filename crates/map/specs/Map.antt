@@ -8,7 +8,7 @@ use Rattle.laws.specs.Padded.{padded}
 use Rattle.layout.specs.declared.Layout.{Layout}
 use Rattle.layout.specs.Layouts.{map_offset}
 use Rattle.blocks.specs.Numbers.{number, digits}
-use Rattle.map.specs.declared.Blocks.{Blocks}
+use Rattle.map.specs.declared.collection.Blocks.{Blocks}
 use Rattle.laws.specs.Member.{has}
 
 -- The map value of a block.

@@ -9,12 +9,9 @@ ghost use Rattle.layout.specs.Right.{LayoutRight};
 ghost use Rattle.layout.specs.Layouts.{map_offset};
 ghost use Rattle.map.specs.Map.{map_at, Fits, is_link, chain, Chained, free_blocks, Collected, set_map, first_or, link_blocks, set_all, touched, marked};
 
-// Blocks: the first `count` of the list.
-#[derive(Drop)]
-pub struct Blocks {
-    pub list: [u16; 1600],
-    pub count: usize,
-}
+mod collection;
+
+pub use collection::Blocks;
 
 // The map value of a block.
 pub fn map_at(image: &[u8], block: usize) -> usize
@@ -25,6 +22,7 @@ pub fn map_at(image: &[u8], block: usize) -> usize
 }
 
 // Stores the map value of a block.
+#[tactic(auto, unfolding(crate::specs::Map::set_map))]
 pub fn set_map(image: &mut [u8], block: usize, value: usize)
     requires { map_offset block + 2 ≤ length image.old }
     ensures { image.new ≡ set_map image.old block value }
@@ -33,13 +31,11 @@ pub fn set_map(image: &mut [u8], block: usize, value: usize)
 }
 
 // Whether a map value, or a start, names a data block.
+#[tactic(auto, using(laws::proofs::Tests::below_told), unfolding(crate::specs::Map::is_link))]
 pub fn is_link(layout: layout::Layout, value: usize) -> bool
     ensures { result ≡ is_link layout value }
 {
-    if value < layout.first {
-        return false;
-    }
-    value < layout.blocks
+    (layout.first..layout.blocks).contains(&value)
 }
 
 // Follows a block's link, and counts it where it does.
@@ -66,10 +62,8 @@ pub fn nth_block(
     ensures followed_after { followed.new ≡ followed.old + n }
 {
     let mut block = start;
-    let mut k = 0;
-    while k < n {
+    for _ in 0..n {
         block = follow(image, block, followed);
-        k += 1;
     }
     block
 }
@@ -81,11 +75,9 @@ pub fn chain_blocks(image: &[u8], layout: layout::Layout, links: usize, start: u
 {
     let mut list = [0u16; 1600];
     let mut block = start;
-    let mut k = 0;
-    while k < links {
+    for k in 0..links {
         list[k] = block as u16;
         block = map_at(image, block);
-        k += 1;
     }
     list[links] = block as u16;
     let count = links + 1;
@@ -97,26 +89,18 @@ pub fn free_blocks(image: &[u8], layout: layout::Layout, wanted: usize) -> Block
     requires { Fits layout image.now × LayoutRight layout }
     ensures { Collected (take wanted (free_blocks layout (map_at (bytes image.now)))) result }
 {
-    let first = layout.first;
-    let end = layout.blocks;
     let mut list = [0u16; 1600];
     let mut count = 0;
-    let mut block = first;
-    while block < end && count < wanted {
+    for block in layout.first..layout.blocks {
+        if count == wanted {
+            break;
+        }
         if map_at(image, block) == 0 {
             list[count] = block as u16;
             count += 1;
         }
-        block += 1;
     }
     Blocks { list, count }
-}
-
-// An element of a list of blocks as a number.
-fn wide(value: u16) -> usize
-    ensures { result ≡ value }
-{
-    value as usize
 }
 
 // The k-th of some blocks, which are all below an end.
@@ -124,7 +108,7 @@ pub fn block_of(list: &[u16], k: usize, end: usize) -> usize
     requires { (k < length list.now) × ((b : ℕ) → In b list.now → b < end) }
     ensures { (result ≡ get_or list.now k 0) × (result < end) }
 {
-    wide(list[k])
+    usize::from(list[k])
 }
 
 // The map value of the k-th block of a chain: the next block, or the end mark.
@@ -132,10 +116,9 @@ fn next_of(list: &[u16], k: usize, mark: usize) -> usize
     requires { k < length list.now }
     ensures { result ≡ first_or (drop (k + 1) list.now) mark }
 {
-    if k + 1 < list.len() {
-        wide(list[k + 1])
-    } else {
-        mark
+    match list.get(k + 1) {
+        Some(&next) => usize::from(next),
+        None => mark,
     }
 }
 
@@ -145,15 +128,12 @@ pub fn link_blocks(image: &mut [u8], layout: layout::Layout, chosen: &[u16])
     ensures { image.new ≡ link_blocks image.old chosen.now layout.mark }
 {
     let end = layout.blocks;
-    let end_mark = layout.mark;
-    let mut k = 0;
-    while k < chosen.len() {
+    for k in 0..chosen.len() {
         set_map(
             image,
             block_of(chosen, k, end),
-            next_of(chosen, k, end_mark),
+            next_of(chosen, k, layout.mark),
         );
-        k += 1;
     }
 }
 
@@ -162,23 +142,18 @@ pub fn clear_blocks(image: &mut [u8], layout: layout::Layout, freed: &[u16])
     requires { Fits layout image.old × ((b : ℕ) → In b freed.now → b < layout.blocks) }
     ensures { image.new ≡ set_all image.old freed.now 0 }
 {
-    let end = layout.blocks;
-    let mut k = 0;
-    while k < freed.len() {
-        set_map(image, block_of(freed, k, end), 0);
-        k += 1;
+    for &block in freed {
+        set_map(image, usize::from(block), 0);
     }
 }
 
-// Marks the first blocks of a list.
-pub fn mark_blocks(marks: &mut [bool; 1600], list: &[u16; 1600], count: usize)
-    requires { (count ≤ 1600) × (count ≤ length list.now) × ((b : ℕ) → In b (take count list.now) → b < 1600) }
-    ensures { marks.new ≡ marked marks.old (take count list.now) }
+// Marks blocks.
+pub fn mark_blocks(marks: &mut [bool; 1600], list: &[u16])
+    requires { (b : ℕ) → In b list.now → b < 1600 }
+    ensures { marks.new ≡ marked marks.old list.now }
 {
-    let mut k = 0;
-    while k < count {
-        marks[wide(list[k])] = true;
-        k += 1;
+    for &block in list {
+        marks[usize::from(block)] = true;
     }
 }
 
@@ -194,17 +169,13 @@ pub fn touches(
     ensures { result ≡ touched marks.now (chain (map_at (bytes image.now)) links start) }
 {
     let mut block = start;
-    let mut left = links;
-    loop {
+    for _ in 0..links {
         if marks[block] {
             return true;
         }
-        if left == 0 {
-            return false;
-        }
         block = map_at(image, block);
-        left -= 1;
     }
+    marks[block]
 }
 
 // Marks the blocks of a faultless chain.
@@ -219,13 +190,9 @@ pub fn mark_chain(
     ensures { marks.new ≡ marked marks.old (chain (map_at (bytes image.now)) links start) }
 {
     let mut block = start;
-    let mut left = links;
-    loop {
+    for _ in 0..links {
         marks[block] = true;
-        if left == 0 {
-            return;
-        }
         block = map_at(image, block);
-        left -= 1;
     }
+    marks[block] = true;
 }

@@ -1,6 +1,6 @@
 -- A legal name comes back from its area in capitals, a legal area from its name, and each is legal where the other is; a name and its capitals are one name.
--- Byte by byte, from AKAII's laws where the layout's names are AKAII. Assumes nothing.
-use Rattle.std.specs.Prelude.{◌≡◌, Bool, ℕ, ◌≤◌, length, take, drop, leb, eqb}
+-- Some by byte, from AKAII's laws where the layout's names are AKAII. Assumes nothing.
+use Rattle.std.specs.Prelude.{Some, ◌≡◌, Bool, ℕ, ◌≤◌, length, take, drop, leb, eqb}
 use Rattle.std.proofs.Math.Path.{refl}
 use Rattle.std.proofs.Common.{sym, ap, ◌∙◌, arith}
 use Rattle.std.proofs.Math.Bool.{true, false}
@@ -13,7 +13,6 @@ use Rattle.laws.specs.Lists.{all_of, same}
 use Rattle.laws.specs.Lemmas.Lists.{same_refl}
 use Rattle.layout.specs.declared.Layout.{Layout}
 use Rattle.layout.specs.Right.{LayoutRight}
-use Rattle.names.specs.declared.Converted.TheVariants.{Byte}
 use Rattle.names.specs.Akaii.{akaii_of, has_image, image_of, capital, akaii_back, code_most, akaii_capital, capital_twice}
 use Rattle.names.specs.Names.{stored_byte, given_byte, to_disk, to_ascii, kept_byte, capitals, padding, legal_name, area_of, legal_area, name_of}
 use Rattle.names.specs.NameLaws.{image_byte, ToDisk, all_there, all_back, name-length, area_back, name-legal}
@@ -24,7 +23,7 @@ module _ (l : Layout) (right : LayoutRight l) where
   to_disk_by : (t : Bool) → l.akaii ≡ t → (a : ℕ) → given_byte l a ≡ true → ToDisk l a
   unfolding given_byte to_disk to_ascii stored_byte kept_byte
   to_disk_by true t a h =
-      let e : akaii_of a ≡ Byte (image_of (akaii_of a)) = image_byte (akaii_of a) (rw t at h) in
+      let e : akaii_of a ≡ Some (image_of (akaii_of a)) = image_byte (akaii_of a) (rw t at h) in
       let codes = right.akaii_codes t in
       let c = image_of (akaii_of a) in
       let most : c ≤ 40 = code_most a c e in

@@ -1,6 +1,6 @@
 -- A legal name comes back from its area in capitals, a legal area from its name, and each is legal where the other is; a name and its capitals are one name.
--- Byte by byte, from AKAII's laws where the layout's names are AKAII. Assumes nothing.
-use Rattle.std.specs.Prelude.{◌≡◌, Bool, ℕ, zero, suc, ◌+◌, ◌-◌, ◌≤◌, ◌<◌, length, take, drop, get_or, replicate, leb, eqb}
+-- Some by byte, from AKAII's laws where the layout's names are AKAII. Assumes nothing.
+use Rattle.std.specs.Prelude.{Some, None, ◌≡◌, Bool, ℕ, zero, suc, ◌+◌, ◌-◌, ◌≤◌, ◌<◌, length, take, drop, get_or, replicate, leb, eqb}
 use Rattle.std.proofs.Math.Path.{refl}
 use Rattle.std.proofs.Common.{sym, ap, ◌∙◌, true≢false, arith, take-append-drop, length-take-le}
 use Rattle.std.proofs.Math.Bool.{true, false}
@@ -16,9 +16,7 @@ use Rattle.laws.specs.Lemmas.Lists.{same_true}
 use Rattle.layout.specs.declared.Layout.{Layout}
 use Rattle.layout.specs.Layouts.{s900, s1000}
 use Rattle.layout.specs.Right.{LayoutRight}
-use Rattle.names.specs.declared.Converted.{Converted}
-use Rattle.names.specs.declared.Converted.TheVariants.{Byte, NoImage}
-use Rattle.names.specs.Akaii.{akaii_of, ascii_of, has_image, image_of, ascii_back, ascii_none, ascii_some}
+use Rattle.names.specs.Akaii.{Converted, akaii_of, ascii_of, has_image, image_of, ascii_back, ascii_none, ascii_some}
 use Rattle.names.specs.Names.{stored_byte, akaii_byte, ascii_byte, given_byte, to_disk, to_ascii, kept_byte, capitals, padding, legal_name, area_of, legal_area, name_of}
 
 -- ---- one byte
@@ -40,9 +38,9 @@ pub stored_s1000 : (blocks first c : ℕ) → stored_byte (s1000 blocks first) c
 unfolding stored_byte
 stored_s1000 blocks first c = akaii_within c
 
-pub image_byte : (w : Converted) → has_image w ≡ true → w ≡ Byte (image_of w)
-image_byte (Byte b) e = refl
-image_byte NoImage e = absurd (true≢false (sym e))
+pub image_byte : (w : Converted) → has_image w ≡ true → w ≡ Some (image_of w)
+image_byte (Some b) e = refl
+image_byte None e = absurd (true≢false (sym e))
 
 -- a byte's image is a legal byte on the disk, and its image is the byte kept
 pub record ToDisk (l : Layout) (a : ℕ) : Type 0 where
@@ -59,8 +57,8 @@ module _ (l : Layout) (right : LayoutRight l) where
   to_ascii_by true t c h =
       let codes = right.akaii_codes t in
       let most : c ≤ l.high = leb-true c l.high (both_true (leb l.low c) (leb c l.high) h).1 in
-      let e : ascii_of c ≡ Byte (image_of (ascii_of c)) = image_byte (ascii_of c) (ascii_some c (omega (arith, codes.1))) in
-      let k : akaii_of (image_of (ascii_of c)) ≡ Byte c = ascii_back c (image_of (ascii_of c)) e in
+      let e : ascii_of c ≡ Some (image_of (ascii_of c)) = image_byte (ascii_of c) (ascii_some c (omega (arith, codes.1))) in
+      let k : akaii_of (image_of (ascii_of c)) ≡ Some c = ascii_back c (image_of (ascii_of c)) e in
       record { legal = rw t (ap has_image k); back = rw t (ap image_of k) }
   to_ascii_by false t c h = record { legal = rw t h; back = rw t refl }
 

@@ -3,7 +3,7 @@
 use Rattle.std.specs.Prelude.{◌≡◌, List, ℕ, ◌-◌, ◌≤◌, length, take, drop}
 use Rattle.std.proofs.Common.{ap, arith}
 use Rattle.laws.specs.Lemmas.Padded.{length-padded, take-padded}
-use Rattle.map.specs.declared.Blocks.{Blocks}
+use Rattle.map.specs.declared.collection.Blocks.{Blocks}
 use Rattle.map.specs.Map.{Collected}
 
 -- the part ends in the array

@@ -8,7 +8,7 @@ use Rattle.laws.specs.Splice.{splice}
 use Rattle.laws.specs.Reader.{bytes}
 use Rattle.layout.specs.declared.Layout.{Layout}
 use Rattle.blocks.specs.Blocks.{links_for}
-use Rattle.map.specs.declared.Blocks as collections
+use Rattle.map.specs.declared.collection.Blocks as collections
 use Rattle.map.specs.Map.{map_at, chain, Collected}
 use Rattle.view.specs.Disk.{used}
 use Rattle.image.specs.Image.{view_of}

@@ -11,7 +11,7 @@ use Rattle.layout.specs.declared.Density.{Density}
 use Rattle.layout.specs.declared.Layout.{Layout}
 use Rattle.layout.specs.Layouts.{layout_of}
 use Rattle.blocks.specs.Blocks.{links_for}
-use Rattle.map.specs.declared.Blocks as collections
+use Rattle.map.specs.declared.collection.Blocks as collections
 use Rattle.map.specs.Map.{map_at, chain, Collected}
 use Rattle.map.specs.Lemmas.Chains.{length-chain}
 use Rattle.view.specs.Disk.{used, entry_chain, chain_of}

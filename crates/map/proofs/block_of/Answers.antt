@@ -5,5 +5,4 @@ use Rattle.map.specs.Lemmas.Linking.{nth_in}
 use Rattle.map.proofs.block_of.Goals as goal
 
 pub returns : goal.returns
-returns c =
-    (c.wide.ensures, omega (arith, c.requires.1 (get_or c.args.list.now c.args.k 0) (nth_in c.args.list.now c.args.k (omega arith))))
+returns c = (c.from.ensures, omega (arith, c.from.ensures, c.requires.1 (get_or c.args.list.now c.args.k 0) (nth_in c.args.list.now c.args.k (omega arith))))

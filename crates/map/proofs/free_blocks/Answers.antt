@@ -1,17 +1,17 @@
 -- `map::free_blocks` meets its contract: the blocks collected and those still wanted of the rest are those wanted of the whole.
 -- Each block passed is free, and collected, or it isn't; the loop stops where none is left or none is wanted. Assumes nothing.
-use Rattle.std.proofs.Common.{◌≡◌, sym, ◌∙◌, ◌-◌, ◌<◌, arith, ltb-true, ltb-false}
+use Rattle.std.proofs.Common.{◌≡◌, [], take, sym, ◌∙◌, ◌-◌, ◌<◌, arith}
 use Rattle.laws.specs.Reader.{bytes}
 use Rattle.map.specs.Lemmas.Collect.{collect_none, collect_one, collect_end, wanted_end, wanted_full}
 use Rattle.map.proofs.Lemmas.Collect.{wanted_stop, wanted_on}
-use Rattle.map.specs.Map.{map_at, free_blocks}
-use Rattle.map.proofs.free_blocks.Goals.{then-map_at-eq0, else-map_at-eq0}
+use Rattle.map.specs.Map.{map_at, free_blocks, free_from}
+use Rattle.map.proofs.free_blocks.Goals.{then-map_at-eq0, else-map_at-eq0, else-loop-block-test, then-loop-block-test+then-count-wanted}
 use Rattle.map.proofs.free_blocks.Goals as goal
 
 pub loop-block-init : goal.loop-block-init
 loop-block-init c =
     let e : c.args.wanted - 0 ≡ c.args.wanted = omega arith in
-    (c.requires.1.data_some, omega arith, collect_none _ _ (rw e))
+    (omega arith, omega arith, collect_none _ _ (rw e))
 
 pub overflow_cast-list : goal.overflow_cast-list
 overflow_cast-list c = omega (arith, c.requires.1.blocks_most)
@@ -29,7 +29,7 @@ loop-block-preserved c =
     let m = map_at (bytes a.image.now) in
     let end = a.layout.blocks in
     let value = c.map_at.ensures in
-    let more : l.count < a.wanted = omega (arith, ltb-true) in
+    let more : l.count < a.wanted = omega arith in
     elim c.if-map_at-eq0.branch [
       | then-map_at-eq0 w ↦
           let rest = wanted_stop m l.block end l.count a.wanted (omega arith) more (sym value ∙ w.if-map_at-eq0.true) in (
@@ -45,18 +45,20 @@ loop-block-preserved c =
           )
     ]
 
-pub returns-else-count-wanted : goal.returns-else-count-wanted
-unfolding free_blocks
-returns-else-count-wanted c =
-    let l = c.loop-block in
-    let a = c.args in
-    let none = wanted_full (map_at (bytes a.image.now)) l.block a.layout.blocks l.count a.wanted (omega (arith, ltb-false)) in
-    collect_end (record { list = l.list; count = l.count }) (omega (arith, c.requires.1.blocks_most)) none l.invariant.2
+pub offset_bounds-list-count : goal.offset_bounds-list-count
+offset_bounds-list-count c = omega (arith, c.requires.1.blocks_most)
 
-pub returns-after-loop-block : goal.returns-after-loop-block
+pub invariant_of-result : goal.invariant_of-result
+invariant_of-result c = record { few = omega (arith, c.requires.1.blocks_most) }
+
+pub returns : goal.returns
 unfolding free_blocks
-returns-after-loop-block c =
+returns c =
     let l = c.loop-block in
-    let a = c.args in
-    let none = wanted_end (map_at (bytes a.image.now)) l.block a.layout.blocks l.count a.wanted (omega arith) in
-    collect_end (record { list = l.list; count = l.count }) (omega (arith, c.requires.1.blocks_most)) none l.invariant.2
+    let m = map_at (bytes c.args.image.now) in
+    let none : take (c.args.wanted - l.count) (free_from m l.block (c.args.layout.blocks - l.block)) ≡ [] =
+    elim c.loop-block-test.branch [
+      | else-loop-block-test w ↦ wanted_end m l.block c.args.layout.blocks l.count c.args.wanted (omega arith)
+      | then-loop-block-test+then-count-wanted w ↦ wanted_full m l.block c.args.layout.blocks l.count c.args.wanted (omega arith)
+    ] in
+    collect_end _ (omega (arith, c.requires.1.blocks_most)) none l.invariant.2

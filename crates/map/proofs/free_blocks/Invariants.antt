@@ -8,8 +8,5 @@ use Rattle.map.proofs.free_blocks.Given as goal
 
 abbrev pub invariant-loop-block : goal.invariant-loop-block
 invariant-loop-block l =
-    (l.block ≤ l.end) × (l.count + l.first ≤ l.block)
-    × Collecting l.initial.list (take l.wanted (free_from (map_at (bytes l.image)) l.first (l.end - l.first))) l.list (take (l.wanted - l.count) (free_from (map_at (bytes l.image)) l.block (l.end - l.block))) l.count
-
-abbrev pub decreases-loop-block : goal.decreases-loop-block
-decreases-loop-block l = l.end - l.block
+    (l.count + l.fn.layout.first ≤ l.block) × (l.count ≤ l.wanted)
+    × Collecting l.initial.list (take l.wanted (free_from (map_at (bytes l.image)) l.fn.layout.first (l.fn.layout.blocks - l.fn.layout.first))) l.list (take (l.wanted - l.count) (free_from (map_at (bytes l.image)) l.block (l.fn.layout.blocks - l.block))) l.count

@@ -1,11 +1,8 @@
 -- `map::link_blocks` meets its contract: linking what remains of the blocks makes what linking all of them makes.
 -- Each turn sets one map value, as the definition does at each block. Assumes nothing.
-use Rattle.std.proofs.Common.{◌≡◌, ◌-◌, ◌≤◌, length, drop}
+use Rattle.std.proofs.Common.{◌≡◌, drop}
 use Rattle.map.specs.Map.{link_blocks}
 use Rattle.map.proofs.link_blocks.Given as goal
 
 abbrev pub invariant-loop-k : goal.invariant-loop-k
-invariant-loop-k l = (l.k ≤ length l.chosen) × (length l.image ≡ length l.initial.image) × (link_blocks l.image (drop l.k l.chosen) l.end_mark ≡ link_blocks l.initial.image l.chosen l.end_mark)
-
-abbrev pub decreases-loop-k : goal.decreases-loop-k
-decreases-loop-k l = length l.chosen - l.k
+invariant-loop-k l = link_blocks l.image (drop l.k l.chosen) l.layout.mark ≡ link_blocks l.initial.image l.chosen l.layout.mark

@@ -1,15 +1,16 @@
 -- `map::next_of` meets its contract: the map value is the first of the blocks after the k-th, or the mark.
 -- By whether there is a block after it. Assumes nothing.
-use Rattle.std.proofs.Common.{sym, ◌∙◌, ◌+◌, arith}
+use Rattle.std.proofs.Common.{sym, ◌∙◌, ◌+◌}
 use Rattle.map.specs.Lemmas.Linking.{first_there, first_none}
 use Rattle.map.proofs.next_of.Goals as goal
 
-pub returns-then-k-list : goal.returns-then-k-list
-returns-then-k-list c =
+pub returns-in-Some : goal.returns-in-Some
+returns-in-Some c =
     let a = c.args in
-    c.wide.ensures ∙ sym (first_there a.list.now (a.k + 1) a.mark (omega arith))
+    let got = c.in-Some.ensures.lookup in
+    c.from.ensures ∙ got.3.1 0 ∙ sym (first_there a.list.now (a.k + 1) a.mark got.3.0)
 
-pub returns-else-k-list : goal.returns-else-k-list
-returns-else-k-list c =
+pub returns-in-None : goal.returns-in-None
+returns-in-None c =
     let a = c.args in
-    sym (first_none a.list.now (a.k + 1) a.mark (omega arith))
+    sym (first_none a.list.now (a.k + 1) a.mark c.in-None.ensures.lookup.3)

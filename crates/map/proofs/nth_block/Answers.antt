@@ -6,25 +6,23 @@ use Rattle.map.specs.Lemmas.Chains.{nth_first, nth_data, nth_next}
 use Rattle.map.specs.Map.{map_at, chain}
 use Rattle.map.proofs.nth_block.Goals as goal
 
-pub loop-k-init : goal.loop-k-init
-loop-k-init c = (omega arith, nth_first _ _ _, omega arith)
+pub loop-init : goal.loop-init
+loop-init c = (nth_first _ _ _, omega arith)
 
 pub follow-block-requires : goal.follow-block-requires
-follow-block-requires c = (omega (arith, (nth_data c.args.layout (map_at (bytes c.args.image.now)) c.args.links c.args.start c.loop-k.k c.requires.1 (omega arith) c.loop-k.invariant.1).1), omega arith)
+follow-block-requires c = (omega (arith, (nth_data c.args.layout (map_at (bytes c.args.image.now)) c.args.links c.args.start c.loop.counter c.requires.1 (omega arith) c.loop.invariant.0).1), omega arith)
 
-pub loop-k-preserved : goal.loop-k-preserved
-loop-k-preserved c =
-    let l = c.loop-k in
+pub loop-preserved : goal.loop-preserved
+loop-preserved c =
     let a = c.args in
     let f = c.follow-block.ensures in
-    (omega arith, nth_next (map_at (bytes a.image.now)) a.links a.start l.k l.invariant.1 f.value (omega arith) refl, omega (arith, f.followed_after))
+    (nth_next (map_at (bytes a.image.now)) a.links a.start c.loop.counter c.loop.invariant.0 f.value (omega arith) refl, omega (arith, f.followed_after))
 
 pub returns : goal.returns
 returns c =
-    let l = c.loop-k in
     let a = c.args in
-    let e : l.k ≡ a.n = omega arith in
+    let e : c.loop.counter ≡ a.n = omega arith in
     record {
-      value = l.invariant.1 ∙ ap (λ (i : ℕ). get_or (chain (map_at (bytes a.image.now)) a.links a.start) i 0) e;
+      value = c.loop.invariant.0 ∙ ap (λ (i : ℕ). get_or (chain (map_at (bytes a.image.now)) a.links a.start) i 0) e;
       followed_after = omega arith;
     }

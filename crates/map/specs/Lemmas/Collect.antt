@@ -5,7 +5,7 @@ use Rattle.std.proofs.Common.{sym, ap, ◌∙◌, zero-add, add-one, arith}
 use Rattle.std.proofs.Math.Seq.{take-nil}
 use Rattle.laws.specs.Splice.{splice}
 use Rattle.laws.specs.Lemmas.Padded.{splice_zeros}
-use Rattle.map.specs.declared.Blocks.{Blocks}
+use Rattle.map.specs.declared.collection.Blocks.{Blocks}
 use Rattle.map.specs.Map.{Collected, free_from}
 use Rattle.map.specs.Lemmas.Free.{free_end}
 

@@ -1,61 +1,51 @@
--- `names::is_padding` meets its contract: the bytes from i on are the padding's exactly when all past the name are.
--- The loop's answer is that of the bytes from i on. Assumes nothing.
-use Rattle.names.proofs.is_padding.Invariants.{rest}
-use Rattle.std.proofs.Common.{◌≡◌, refl, sym, ◌∙◌, List, true, false, ℕ, suc, ◌+◌, ◌-◌, ◌≤◌, ◌<◌, arith, add-one, length, get_or, drop_of_length-le, eqb, drop-cons, eq-eqb, ne_eqb}
-use Rattle.laws.specs.Lists.{same}
+-- `names::is_padding` meets its contract: an area's bytes past the name are the padding where all but the last are its fill and the last is its last.
+-- By the library's law for `all` over a slice, and induction on how much is filled. Assumes nothing.
+use Rattle.std.proofs.Common.{◌≡◌, refl, sym, ◌∙◌, List, [], ◌∷◌, ◌++◌, ℕ, zero, suc, ◌+◌, ◌-◌, Bool, true, false, arith, rules, length, take, drop, replicate, get_or, get_or-drop, length-drop, eqb}
+use borrow.Author.Tests.{tests}
+use Rattle.laws.specs.Lists.{all_of, same}
 use Rattle.laws.specs.Truth.{both}
-use Rattle.layout.specs.Right.{LayoutRight}
 use Rattle.layout.specs.declared.Layout.{Layout}
-use Rattle.names.specs.NameLaws.{length-padding}
+use Rattle.layout.specs.Right.{LayoutRight}
 use Rattle.names.specs.Names.{padding}
+use Rattle.laws.proofs.Tests.{all_told}
 use Rattle.names.proofs.is_padding.Goals as goal
 
-module _ (l : Layout) (right : LayoutRight l) (area : List ℕ) (size : length area ≡ 16) (i : ℕ) where
-  rest_end : 16 ≤ i → rest l area i ≡ true
-  unfolding same
-  rest_end h =
-      let p : length area ≤ i = omega arith in
-      let q : length (padding l) ≤ i - l.letters = omega (arith, length-padding l right) in
-      rw (drop_of_length-le area p, drop_of_length-le (padding l) q) refl
+both_yes : (a : Bool) → both a true ≡ a
+both_yes true = refl
+both_yes false = refl
 
-  rest_next : l.letters ≤ i → i < 16 → rest l area i ≡ both (eqb (get_or area i 0) (get_or (padding l) (i - l.letters) 0)) (rest l area (i + 1))
-  unfolding same
-  rest_next h k =
-      let e : i + 1 - l.letters ≡ suc (i - l.letters) = omega arith in
-      rw (e, add-one i, drop-cons area i 0 (omega arith), drop-cons (padding l) (i - l.letters) 0 (omega (arith, length-padding l right))) refl
+both_more : (a b c : Bool) → both a (both b c) ≡ both (both a b) c
+both_more true b c = refl
+both_more false b c = refl
 
-  -- r is the padding's byte
-  rest_stop : l.letters ≤ i → i < 16 → {r : ℕ} → r ≡ get_or (padding l) (i - l.letters) 0 → (get_or area i 0 ≡ r → ⊥) → rest l area i ≡ false
-  rest_stop h k e n = rest_next h k ∙ rw (ne_eqb (get_or area i 0) (get_or (padding l) (i - l.letters) 0) (λ q. n (q ∙ sym e))) refl
+-- n bytes of fill and a last one
+same_filled : (fill last n : ℕ) (xs : List ℕ) → length xs ≡ n + 1
+    → same xs (replicate n fill ++ (last ∷ [])) ≡ both (all_of (λ b. eqb b fill) (take n xs)) (eqb (get_or xs n 0) last)
+unfolding same all_of
+same_filled fill last n [] e = absurd (omega arith)
+same_filled fill last zero (x ∷ []) e = both_yes (eqb x last)
+same_filled fill last zero (x ∷ y ∷ xs) e = absurd (omega arith)
+same_filled fill last (suc n) (x ∷ xs) e = rw (same_filled fill last n xs (omega arith)) (both_more (eqb x fill) (all_of (λ b. eqb b fill) (take n xs)) (eqb (get_or xs n 0) last))
 
-  rest-on : l.letters ≤ i → i < 16 → {r : ℕ} → r ≡ get_or (padding l) (i - l.letters) 0 → get_or area i 0 ≡ r → rest l area i ≡ rest l area (i + 1)
-  rest-on h k e n = rest_next h k ∙ rw (eq-eqb (get_or area i 0) (get_or (padding l) (i - l.letters) 0) (n ∙ e)) refl
+rest_filled : (l : Layout) → LayoutRight l → (area : List ℕ) → length area ≡ 16
+    → same (drop l.letters area) (padding l) ≡ both (all_of (λ b. eqb b l.pad) (take (15 - l.letters) (drop l.letters area))) (eqb (get_or area 15 0) l.last)
+unfolding padding
+rest_filled l right area size =
+    let few = right.letters_few in
+    let e : l.letters + (15 - l.letters) ≡ 15 = omega arith in
+    same_filled l.pad l.last (15 - l.letters) (drop l.letters area) (omega (arith, length-drop l.letters area))
+    ∙ rw (get_or-drop, e) refl
 
-pub loop-i-init : goal.loop-i-init
-loop-i-init c =
-    let l = c.args.layout in
-    let z : l.letters - l.letters ≡ 0 = omega arith in
-    (omega arith, omega (arith, c.requires.0.letters_few), rw z refl)
-
-pub pad_byte-requires : goal.pad_byte-requires
-pad_byte-requires c = (c.requires.0, c.loop-i.invariant.0, omega arith)
-
-pub returns-then-area-i : goal.returns-then-area-i
-returns-then-area-i c =
-    let k = c.loop-i in
+pub returns-then-all : goal.returns-then-all
+returns-then-all c =
     let l = c.args.layout in
     let a = c.args.area.now in
-    sym (rest_stop l c.requires.0 a c.requires.1 k.i k.invariant.0 (omega arith) c.pad_byte.ensures c.if-area-i.true) ∙ k.invariant.2
+    let e = all_told (λ b. eqb b l.pad) (take (15 - l.letters) (drop l.letters a)) c.all.ensures.ran (cc) (λ x b q k. search (rules, tests)) in
+    rw c.from.ensures (sym (rest_filled l c.requires.0 a c.requires.1 ∙ rw (sym e ∙ c.if-all.true) refl))
 
-pub loop-i-preserved : goal.loop-i-preserved
-loop-i-preserved c =
-    let k = c.loop-i in
+pub returns-else-all : goal.returns-else-all
+returns-else-all c =
     let l = c.args.layout in
     let a = c.args.area.now in
-    let on = rest-on l c.requires.0 a c.requires.1 k.i k.invariant.0 (omega arith) c.pad_byte.ensures c.if-area-i.false in
-    (omega arith, omega arith, sym on ∙ k.invariant.2)
-
-pub returns : goal.returns
-returns c =
-    let k = c.loop-i in
-    sym (rest_end c.args.layout c.requires.0 c.args.area.now c.requires.1 k.i (omega arith)) ∙ k.invariant.2
+    let e = all_told (λ b. eqb b l.pad) (take (15 - l.letters) (drop l.letters a)) c.all.ensures.ran (cc) (λ x b q k. search (rules, tests)) in
+    c.if-all.false ∙ sym (rest_filled l c.requires.0 a c.requires.1 ∙ rw (sym e ∙ c.if-all.false) refl)

@@ -16,7 +16,7 @@ get_or-name l right area size i h =
     get_or_map (to_ascii l) (take l.letters area) i (omega (arith, length_front l right area size)) ∙ ap (to_ascii l) (get_or-take l.letters area i 0 h)
 
 pub loop-i-init : goal.loop-i-init
-loop-i-init c = (omega arith, splice_none _ _)
+loop-i-init c = splice_none _ _
 
 pub loop-i-preserved : goal.loop-i-preserved
 loop-i-preserved c =
@@ -25,7 +25,7 @@ loop-i-preserved c =
     let a = c.args.area.now in
     let size = length-name l c.requires.0 a c.requires.1 in
     let e = c.ascii_byte.ensures ∙ sym (get_or-name l c.requires.0 a c.requires.1 k.i (omega arith)) in
-    (omega arith, splice-turn _ 0 (name_of l a) k.i k.invariant.1 (omega arith) (omega arith) e)
+    splice-turn _ 0 (name_of l a) k.i k.invariant (omega arith) (omega arith) e
 
 pub returns : goal.returns
 returns c =
@@ -33,4 +33,4 @@ returns c =
     let l = c.args.layout in
     let a = c.args.area.now in
     let size = length-name l c.requires.0 a c.requires.1 in
-    k.invariant.1 ∙ rw (take_all k.i (name_of l a) (omega arith)) (splice_zeros 12 (name_of l a) (omega (arith, c.requires.0.letters_few)))
+    k.invariant ∙ rw (take_all k.i (name_of l a) (omega arith)) (splice_zeros 12 (name_of l a) (omega (arith, c.requires.0.letters_few)))
