@@ -39,6 +39,16 @@ module _ (header : List ℕ) (base : ℕ) (run : Run) where
   run_found {count} e (Some i) (Some p) h m =
       run_stop header base run e (sym (lowest_is (breaks header base run) 0 count i h.0 (omega (arith, h.1)) h.2 h.3)) m
 
+-- ---- the first of two places: the one there is, or the other
+
+pub stopped : (f g : Lowest) → is_some f ≡ true → f ≡ or_else f g
+stopped (Some place) g t = refl
+stopped None g t = absurd (true≢false (sym t))
+
+pub passed : (f g : Lowest) → is_some f ≡ false → or_else f g ≡ g
+passed (Some place) g t = absurd (true≢false t)
+passed None g t = refl
+
 -- ---- a table: what the rows from row i on give is what all of them give
 
 -- what an array of rows has past its end
@@ -54,21 +64,18 @@ module _ (header : List ℕ) (base : ℕ) (rows : List Row) (i : ℕ) where
   rest_row h = rw (drop-cons rows i no_row h, add-one i, rows_fault) refl
 
   -- the rest of the table is known once the row in hand is
-  rest_by : {row : Row} {f g : Lowest} → RestOf header base rows i → i < length rows → row ≡ get_or rows i no_row → f ≡ row_fault header base row → f ≡ g
-      → or_else g (rows_fault header base (drop (i + 1) rows)) ≡ rows_fault header base rows
-  rest_by v h e k t =
-      let q = sym t ∙ k ∙ ap (row_fault header base) e in
-      ap (λ (x : Lowest). or_else x (rows_fault header base (drop (i + 1) rows))) q ∙ sym (rest_row h) ∙ v
+  rest_by : {row : Row} {f : Lowest} → RestOf header base rows i → i < length rows → row ≡ get_or rows i no_row → f ≡ row_fault header base row
+      → or_else f (rows_fault header base (drop (i + 1) rows)) ≡ rows_fault header base rows
+  rest_by v h e k =
+      ap (λ (x : Lowest). or_else x (rows_fault header base (drop (i + 1) rows))) (k ∙ ap (row_fault header base) e) ∙ sym (rest_row h) ∙ v
 
   pub rows_stop : {row : Row} (f : Lowest) → RestOf header base rows i → i < length rows → row ≡ get_or rows i no_row
       → f ≡ row_fault header base row → is_some f ≡ true → f ≡ rows_fault header base rows
-  rows_stop (Some place) v h e k t = rest_by v h e k refl
-  rows_stop None v h e k t = absurd (true≢false (sym t))
+  rows_stop f v h e k t = stopped f _ t ∙ rest_by v h e k
 
   pub rows_on : {row : Row} (f : Lowest) → RestOf header base rows i → i < length rows → row ≡ get_or rows i no_row
       → f ≡ row_fault header base row → is_some f ≡ false → RestOf header base rows (i + 1)
-  rows_on (Some place) v h e k t = absurd (true≢false t)
-  rows_on None v h e k t = rest_by v h e k refl
+  rows_on f v h e k t = sym (passed f _ t) ∙ rest_by v h e k
 
   pub rows_clean : RestOf header base rows i → length rows ≤ i → None ≡ rows_fault header base rows
   unfolding rows_fault
