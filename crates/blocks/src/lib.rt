@@ -23,7 +23,6 @@ pub fn least(a: usize, b: usize) -> usize
 }
 
 // The number in N bytes from an offset on, the least significant first.
-#[inline]
 pub fn number<const N: usize>(source: &[u8], at: usize) -> usize
     requires width { N ≤ 8 }
     requires room { at + N ≤ length source.now }
@@ -37,7 +36,6 @@ pub fn number<const N: usize>(source: &[u8], at: usize) -> usize
 }
 
 // Stores the N lowest bytes of a number, the least significant first.
-#[inline]
 pub fn store<const N: usize>(target: &mut [u8], at: usize, value: usize)
     requires { at + N ≤ length target.old }
     ensures { target.new ≡ splice target.old at (digits N value) }

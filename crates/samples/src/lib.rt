@@ -27,13 +27,13 @@ pub enum Sampler {
 fn first_word(pair: u16) -> i16
     ensures { result ≡ word_of 4096 (pair / 16) }
 {
-    words::word12(pair / 16)
+    words::word::<12>(pair / 16)
 }
 
 fn second_word(upper: u8, pair: u16) -> i16
     ensures { result ≡ word_of 4096 (16 * upper + pair % 16) }
 {
-    words::word12(16 * (upper as u16) + pair % 16)
+    words::word::<12>(16 * (upper as u16) + pair % 16)
 }
 
 // Fills the first half of the words of S900 data, the second half, and both. A loop for each half has no branch, and a pair of bytes read as one
@@ -77,7 +77,7 @@ fn fill1000(source: &[u8], count: usize, words: &mut [i16])
 {
     let mut i: usize = 0;
     while i < count {
-        let word = words::word16(blocks::number::<2>(source, 2 * i) as u16);
+        let word = words::word::<16>(blocks::number::<2>(source, 2 * i) as u16);
         words[i] = word;
         i += 1;
     }
@@ -89,13 +89,13 @@ fn fill1000(source: &[u8], count: usize, words: &mut [i16])
 fn low_byte(first: i16, second: i16) -> u8
     ensures { result ≡ 16 * (bits_of 4096 first % 16) + bits_of 4096 second % 16 }
 {
-    (16 * (words::bits12(first) % 16) + words::bits12(second) % 16) as u8
+    (16 * (words::bits::<12>(first) % 16) + words::bits::<12>(second) % 16) as u8
 }
 
 fn high_byte(word: i16) -> u8
     ensures { result ≡ bits_of 4096 word / 16 }
 {
-    (words::bits12(word) / 16) as u8
+    (words::bits::<12>(word) / 16) as u8
 }
 
 // Stores the pairs of bytes of S900 data from an offset on, the upper bytes of the second half, and both one after the other.
@@ -139,7 +139,7 @@ fn store1000(words: &[i16], out: &mut [u8], at: usize)
     let count = words.len();
     let mut i: usize = 0;
     while i < count {
-        blocks::store::<2>(out, at + 2 * i, words::bits16(words[i]) as usize);
+        blocks::store::<2>(out, at + 2 * i, words::bits::<16>(words[i]) as usize);
         i += 1;
     }
 }
