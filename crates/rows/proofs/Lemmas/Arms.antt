@@ -1,9 +1,9 @@
 -- What a search of a run's numbers shows of the run's fault, and a row in hand of its table's.
 -- By the first number that breaks the rule, and by what the rows from row i on give. Assumes nothing.
-use Rattle.std.specs.Prelude.{◌≡◌, Bool, true, false, List, get_or, drop, Option, Some, None, MatchOption, IsSomeAnd, is_some}
+use Rattle.std.specs.Prelude.{◌≡◌, true, false, List, get_or, drop, Option, Some, None, MatchOption, IsSomeAnd, is_some}
 use Rattle.std.proofs.Math.Path.{refl, sym, ap}
 use Rattle.std.proofs.Common.{◌∙◌, true≢false, drop_of_length-le}
-use Prim.Native.Nat.{ℕ, zero, suc, ◌+◌, ◌≤◌, ◌<◌}
+use Prim.Native.Nat.{ℕ, ◌+◌, ◌≤◌, ◌<◌}
 use Rattle.std.proofs.Math.Numerals.{add-one}
 use native.Mathlib.Omega.{arith}
 use Rattle.std.proofs.Math.ListN.{length}
@@ -12,21 +12,11 @@ use Rattle.rows.specs.declared.Row.{Row}
 use Rattle.rows.specs.Rows.{breaks, place_of, run_fault, row_fault, or_else, rows_fault}
 use Rattle.rows.specs.Lemmas.Arms.{run_stop, run_clean}
 use Rattle.rows.specs.declared.Row.TheVariants.{Only}
-use Rattle.std.proofs.Math.Decide.{ℕ_discrete}
-use Rattle.laws.specs.Scan.{lowest, Lowest}
-use Rattle.laws.specs.Lemmas.Scan.{→nowhere}
+use Rattle.laws.specs.Scan.{Lowest}
+use Rattle.laws.specs.Lemmas.Scan.{→nowhere, lowest_is}
 use Rattle.rows.specs.declared.Run.{Run}
 
 -- ---- a run: what a search of its numbers found, and the place of that
-
-lowest_is : (f : ℕ → Bool) (i n k : ℕ) → i ≤ k → k < i + n → f k ≡ true → ((j : ℕ) → i ≤ j → j < k → f j ≡ false) → lowest f i n ≡ Some k
-unfolding lowest
-lowest_is f i zero k h l e below = absurd (omega arith)
-lowest_is f i (suc n) k h l e below = go (lowest_is f (suc i) n k) (ℕ_discrete i k)
-  where
-    go : (suc i ≤ k → k < suc i + n → f k ≡ true → ((j : ℕ) → suc i ≤ j → j < k → f j ≡ false) → lowest f (suc i) n ≡ Some k) → Dec (i ≡ k) → lowest f i (suc n) ≡ Some k
-    go ih (yes q) = rw (q, e) refl
-    go ih (no q) = rw (below i (omega arith) (omega arith)) (ih (omega arith) (omega arith) e (λ j a b. below j (omega arith) b))
 
 module _ (header : List ℕ) (base : ℕ) (run : Run) where
   pub run_found : {count : ℕ} → count ≡ run.count → (found place : Option ℕ)
