@@ -1,6 +1,6 @@
--- The library's tests in this repository's words: what `contains` and `min` of numbers and `all` over a slice of them answer.
+-- The library's tests in this repository's words: what `contains` of a range of numbers and `all` over a slice of them answer.
 -- By the order of the numbers, and by induction on the list. Assumes nothing.
-use Rattle.std.specs.Prelude.{◌≡◌, refl, Bool, true, false, Some, List, [], ◌∷◌, ℕ, ◌&&◌, leb, ltb, min}
+use Rattle.std.specs.Prelude.{◌≡◌, refl, Bool, true, false, Some, List, [], ◌∷◌, ℕ, ◌&&◌, leb, ltb}
 use Rattle.std.proofs.lemmas.Bool.Decides.{nat_tests}
 use Rattle.std.proofs.Common.{◌∙◌, arith, Iter}
 use Rattle.std.proofs.iter.Yields.{fronts}
@@ -12,7 +12,7 @@ use Rattle.std.specs.List.{list_all}
 use Rattle.std.specs.Slice.Iter.{iter_rest}
 use denote.Param.Members.{Mut}
 use denote.Ref.{Bor}
-use Rattle.std.specs.Ordering.{partial_le, partial_lt, nat_cmp, ord_min}
+use Rattle.std.specs.Ordering.{partial_le, partial_lt, nat_cmp}
 use Rattle.laws.specs.Lists.{all_of}
 use Rattle.laws.specs.Truth.{both, within}
 
@@ -33,10 +33,6 @@ within_told low high v = rw (le_told low v, le_told v high, and_both (leb low v)
 -- `(low..end).contains(&v)`
 pub below_told : (low end v : ℕ) → (partial_le (λ a b. Some (nat_cmp a b)) low v && partial_lt (λ a b. Some (nat_cmp a b)) v end) ≡ both (leb low v) (ltb v end)
 below_told low end v = rw (le_told low v, lt_told v end, and_both (leb low v) (ltb v end)) refl
-
--- `a.min(b)`
-pub least_told : (a b : ℕ) → ord_min nat_cmp a b ≡ min a b
-least_told a b = grind (arith, nat_tests)
 
 all_listed : (f : ℕ → Bool) (l : List ℕ) → list_all f l ≡ all_of f l
 unfolding all_of
