@@ -77,7 +77,8 @@ pub struct CCounted {
 // What C gets of the check.
 impl From<Result<Accepted, Refusal>> for CChecked {
     ghost use Rattle.std.specs.Prelude.{◌≡◌};
-        ghost use Rattle.skilletjay.specs.Results.{checked_result};
+    ghost use Rattle.rules.specs.Check.{answer_of};
+    ghost use Rattle.skilletjay.specs.Results.{checked_result};
 
     ghost from_gives = { λ checked told. told ≡ checked_result (answer_of checked) };
 
