@@ -1,4 +1,4 @@
-// Bytes: numbers of two to four of them, copies, and the block writer. Each promise is an equation with `splice` or `part`.
+// Bytes: numbers of some of them, copies, and the block writer. Each promise is an equation with `splice` or `part`.
 // Only the crates above call these; each `requires` is a bound that they have from the image's checked length or their own arguments.
 #![tactic(auto)]
 
@@ -12,66 +12,38 @@ ghost use Rattle.blocks.specs.Numbers.{Number, digits};
 pub fn wide(byte: u8) -> usize
     ensures { (result ≡ byte) × (result < 256) }
 {
-    byte as usize
+    usize::from(byte)
 }
 
 // The smaller of two numbers.
 pub fn least(a: usize, b: usize) -> usize
     ensures { result ≡ min a b }
 {
-    if a < b { a } else { b }
+    a.min(b)
 }
 
-// The number in two, three or four bytes from an offset on.
-pub fn number2(source: &[u8], at: usize) -> usize
-    requires { at + 2 ≤ length source.now }
-    ensures { Number 2 (bytes source.now) at result }
+// The number in N bytes from an offset on, the least significant first.
+pub fn number<const N: usize>(source: &[u8], at: usize) -> usize
+    requires width { N ≤ 8 }
+    requires room { at + N ≤ length source.now }
+    ensures { Number N (bytes source.now) at result }
 {
-    let low = wide(source[at]);
-    let high = wide(source[at + 1]);
-    low + 256 * high
+    let mut number = 0;
+    for i in (0..N).rev() {
+        number = usize::from(source[at + i]) + 256 * number;
+    }
+    number
 }
 
-pub fn number3(source: &[u8], at: usize) -> usize
-    requires { at + 3 ≤ length source.now }
-    ensures { Number 3 (bytes source.now) at result }
+// Stores the N lowest bytes of a number, the least significant first.
+pub fn store<const N: usize>(target: &mut [u8], at: usize, value: usize)
+    requires { at + N ≤ length target.old }
+    ensures { target.new ≡ splice target.old at (digits N value) }
 {
-    wide(source[at]) + 256 * number2(source, at + 1)
-}
-
-pub fn number4(source: &[u8], at: usize) -> usize
-    requires { at + 4 ≤ length source.now }
-    ensures { Number 4 (bytes source.now) at result }
-{
-    wide(source[at]) + 256 * number3(source, at + 1)
-}
-
-// Stores the lowest two or three bytes of a number.
-pub fn store2(target: &mut [u8], at: usize, value: usize)
-    requires { at + 2 ≤ length target.old }
-    ensures { target.new ≡ splice target.old at (digits 2 value) }
-{
-    target[at] = (value % 256) as u8;
-    target[at + 1] = (value / 256 % 256) as u8;
-}
-
-pub fn store3(target: &mut [u8], at: usize, value: usize)
-    requires { at + 3 ≤ length target.old }
-    ensures { target.new ≡ splice target.old at (digits 3 value) }
-{
-    target[at] = (value % 256) as u8;
-    store2(target, at + 1, value / 256);
-}
-
-// Copies bytes over as many others.
-fn copy_run(target: &mut [u8], source: &[u8])
-    requires { length target.old ≡ length source.now }
-    ensures { target.new ≡ source.now }
-{
-    let mut i = 0;
-    while i < source.len() {
-        target[i] = source[i];
-        i += 1;
+    let mut rest = value;
+    for i in 0..N {
+        target[at + i] = (rest % 256) as u8;
+        rest /= 256;
     }
 }
 
@@ -80,9 +52,7 @@ pub fn copy_part(source: &[u8], from: usize, target: &mut [u8], at: usize, n: us
     requires { (from + n ≤ length source.now) × (at + n ≤ length target.old) }
     ensures { target.new ≡ splice target.old at (part source.now from n) }
 {
-    let stop = from + n;
-    let end = at + n;
-    copy_run(&mut target[at..end], &source[from..stop]);
+    target[at..at + n].copy_from_slice(&source[from..from + n]);
 }
 
 // Sets n bytes from an offset on to zero.
@@ -90,11 +60,7 @@ pub fn clear(target: &mut [u8], at: usize, n: usize)
     requires { at + n ≤ length target.old }
     ensures { target.new ≡ splice target.old at (replicate n 0) }
 {
-    let mut i = 0;
-    while i < n {
-        target[at + i] = 0;
-        i += 1;
-    }
+    target[at..at + n].fill(0);
 }
 
 // The block writer: content at the front of a block, and zeros after it.
@@ -102,8 +68,7 @@ pub fn write_block(block: &mut [u8], content: &[u8])
     requires { length content.now ≤ length block.old }
     ensures { block.new ≡ padded content.now (length block.old) }
 {
-    let size = block.len();
     let n = content.len();
-    copy_part(content, 0, block, 0, n);
-    clear(block, n, size - n);
+    block[..n].copy_from_slice(content);
+    block[n..].fill(0);
 }

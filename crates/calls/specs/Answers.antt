@@ -1,76 +1,65 @@
 -- The number, place and values of each public call's answer, as the record's answer. Assumes nothing.
-use Rattle.std.specs.Prelude.{◌≡◌, List, [], ℕ, length, take, replicate}
+use Rattle.std.specs.Prelude.{◌≡◌, List, [], ℕ, length, take, replicate, Ok, Err, Result, ⊤}
 use Rattle.laws.specs.Padded.{padded}
-use Rattle.record.specs.Record.{Call, list, find, page, put, remove, salvage, Answer, entry, valued, paged, done, refused_by, Outcome}
-use Rattle.record.specs.declared.Judged.{Judged}
-use Rattle.record.specs.declared.Judged.TheVariants.{Refuse, Grant}
+use Rattle.record.specs.Record.{Call, list, find, page, put, remove, salvage, Answer, entry, valued, paged, done, refused_by, Outcome, Judged}
 use Rattle.laws.specs.declared.Refusal.{Refusal}
-use Rattle.laws.specs.declared.Counted.{Counted}
-use Rattle.laws.specs.declared.Counted.TheVariants as counted
 use Rattle.rules.specs.Check.{came}
 use Rattle.pages.specs.Cost.{no_cost}
-use Rattle.calls.specs.declared.Found.{Found}
-use Rattle.calls.specs.declared.Found.TheVariants as found
-use Rattle.calls.specs.declared.Paged.{Paged}
-use Rattle.calls.specs.declared.Paged.TheVariants as pages
 use Rattle.calls.specs.declared.Metered.{Metered}
-use Rattle.calls.specs.declared.Removed.{Removed}
-use Rattle.calls.specs.declared.Removed.TheVariants as removals
 use Rattle.calls.specs.declared.Entry.{Entry}
-use Rattle.calls.specs.declared.Entry.TheVariants as entries
-use Rattle.calls.specs.declared.Listed.{Listed}
+use Rattle.laws.specs.Refusals.{Counted}
+use Rattle.calls.specs.declared.Piece.{Piece}
 
--- Find's and put's.
+-- Find's and put's slot, salvage's count.
+abbrev pub Found : Type 0
+Found = Result ℕ Refusal
+
 abbrev pub found_of : Found → Answer
-found_of (found.At slot) = valued slot
-found_of (found.Refused r) = refused_by r
-
--- by a call's judgement
-abbrev pub found_by : Judged → Found
-found_by (Refuse r) = found.Refused r
-found_by (Grant slot) = found.At slot
+found_of (Ok n) = valued n
+found_of (Err r) = refused_by r
 
 -- Page's.
+abbrev pub Paged : Type 0
+Paged = Result Piece Refusal
+
 abbrev pub paged_of : Paged → Answer
-paged_of (pages.Page count end) = paged count end
-paged_of (pages.Refused r) = refused_by r
+paged_of (Ok p) = paged p.count p.end
+paged_of (Err r) = refused_by r
 
 -- A page that was refused, which cost nothing.
 abbrev pub unpaged_by : Refusal → Metered
-unpaged_by r = record { paged = pages.Refused r; cost = no_cost }
+unpaged_by r = record { paged = Err r; cost = no_cost }
 
 -- Remove's.
+abbrev pub Removed : Type 0
+Removed = Result ⊤ Refusal
+
 abbrev pub removed_of : Removed → Answer
-removed_of removals.Done = done
-removed_of (removals.Refused r) = refused_by r
+removed_of (Ok _) = done
+removed_of (Err r) = refused_by r
 
--- Salvage's.
-abbrev pub counted_of : Counted → Answer
-counted_of (counted.Done n) = valued n
-counted_of (counted.Refused r) = refused_by r
-
--- List's: the name is the first letters of the 12 bytes beside the answer.
-abbrev pub entry_of : Entry → List ℕ → Answer
-entry_of (entries.File letters letter length) name = entry (take letters name) letter length
-entry_of (entries.Refused r) name = refused_by r
-
--- How many letters that is.
-abbrev pub letters_of : Entry → ℕ
-letters_of (entries.File letters letter length) = letters
-letters_of (entries.Refused r) = 0
+-- List's: the name is the first letters of the entry's 12 bytes.
+abbrev pub Listed : Type 0
+Listed = Result Entry Refusal
 
 abbrev pub listed_of : Listed → Answer
-listed_of r = entry_of r.entry r.name
+listed_of (Ok e) = entry (take e.letters e.name) e.letter e.length
+listed_of (Err r) = refused_by r
+
+-- How many letters that is, and the 12 bytes; a refusal has none, and stands for zeros.
+abbrev pub letters_of : Listed → ℕ
+letters_of (Ok e) = e.letters
+letters_of (Err r) = 0
+
+abbrev pub name_in : Listed → List ℕ
+name_in (Ok e) = e.name
+name_in (Err r) = replicate 12 0
 
 -- List's promise: its answer, how long the name is, and its 12 bytes, zeros but for the name.
 pub record Lists (img : List ℕ) (o : Outcome (List ℕ)) (r : Listed) : Type 0 where
   pub answer : came (listed_of r) [] img ≡ o
-  pub letters : letters_of r.entry ≡ length o.answer.name
-  pub name : r.name ≡ padded o.answer.name 12
-
--- A listing without a file.
-abbrev pub unlisted_by : Refusal → Listed
-unlisted_by r = record { entry = entries.Refused r; name = replicate 12 0 }
+  pub letters : letters_of r ≡ length o.answer.name
+  pub name : name_in r ≡ padded o.answer.name 12
 
 -- The calls by names that the code's own functions don't have.
 abbrev pub list_call : ℕ → Call

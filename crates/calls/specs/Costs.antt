@@ -1,6 +1,6 @@
 -- Request three: a page of an accepted image costs what its bytes do, and a refused one nothing.
 -- By the slot's file; above its length none of its bytes are left. Assumes nothing.
-use Rattle.std.specs.Prelude.{◌≡◌, refl, Bool, true, false, List, ℕ, ◌-◌, min, ltb, length}
+use Rattle.std.specs.Prelude.{◌≡◌, refl, Bool, true, false, List, ℕ, ◌-◌, min, ltb, length, Ok, Err}
 use Rattle.std.proofs.Common.{sym, ap, ◌∙◌, arith, lt-ltb, ltb-true}
 use Rattle.std.proofs.Math.Option.{Option, none, some}
 use Rattle.laws.specs.declared.Refusal.{Refusal}
@@ -11,15 +11,13 @@ use Rattle.blocks.specs.Blocks.{blocks_for}
 use Rattle.view.specs.Disk.{File}
 use Rattle.image.specs.Image.{files_in}
 use Rattle.record.specs.Record.{page, file_at, paging, Outcome}
-use Rattle.rules.specs.declared.Checked.{Checked}
-use Rattle.rules.specs.declared.Checked.TheVariants.{Accepted, Refused}
-use Rattle.rules.specs.Check.{check_of, call_of}
+use Rattle.rules.specs.Check.{check_of, call_of, Checked, accepting}
 use Rattle.rules.specs.Demand.{slot_inside}
 use Rattle.pages.specs.Cost.{no_cost, cost_of, cost_none}
 use Rattle.calls.specs.Metered.{page_cost, cost_in}
 use Rattle.calls.specs.Lemmas.Done.{page-done, cost_done}
 
-pub page_cost_is : (k : Kind) (d : Density) (f n : ℕ) (img : List ℕ) → check_of img ≡ Accepted k d f n → (slot : ℕ) (file : File) → files_in (layout_of k d) img slot ≡ some file
+pub page_cost_is : (k : Kind) (d : Density) (f n : ℕ) (img : List ℕ) → check_of img ≡ accepting k d f n → (slot : ℕ) (file : File) → files_in (layout_of k d) img slot ≡ some file
     → (offset room : ℕ) → cost_in img slot offset room ≡ cost_of (blocks_for (length file.content)) offset (min room (length file.content - offset))
 unfolding cost_in file_at
 page_cost_is k d f n img e slot file there offset room =
@@ -39,8 +37,8 @@ unfolding cost_in
 refused_cost img slot offset out r e = go (check_of img) refl
   where
     go : (c : Checked) → check_of img ≡ c → cost_in img slot offset (length out) ≡ no_cost
-    go (Refused q) h = rw h refl
-    go (Accepted k d f n) h =
-        let l = layout_of k d in
+    go (Err q) h = rw h refl
+    go (Ok disk) h =
+        let l = layout_of disk.kind disk.density in
         sym (cost_done img refl h refl slot offset (length out))
         ∙ refused-free img (file_at l (files_in l img) slot) offset out r (ap (λ (o : Outcome (List ℕ)). o.answer.refusal) (page-done img refl h refl slot offset out) ∙ e)

@@ -1,20 +1,14 @@
 -- What the public calls promise, one by one: each is `Made`, an equation with `call_of`, and so is what the check promises (`check_made`).
 -- The contracts of src/lib.rt say the same; the crate above takes each of them as the one here, so one that said less is refused there. Assumes nothing.
-use Rattle.std.specs.Prelude.{◌≡◌, refl, List, [], ℕ}
+use Rattle.std.specs.Prelude.{◌≡◌, refl, List, [], ℕ, Ok, Err}
 use Rattle.std.proofs.Common.{sym, ap, ◌∙◌}
-use Rattle.laws.specs.declared.Counted.{Counted}
 use Rattle.record.specs.Record.{check, list, find, page, put, remove, salvage, Outcome}
 use Rattle.record.specs.Step.{step_image}
-use Rattle.rules.specs.declared.Checked.{Checked}
-use Rattle.rules.specs.declared.Checked.TheVariants.{Accepted, Refused}
-use Rattle.rules.specs.Check.{came, check_of, refusal_of, answer_of, call_of, Made}
+use Rattle.rules.specs.Check.{came, check_of, answer_of, call_of, Made, Checked}
 use Rattle.rules.proofs.Demand.{check_call}
-use Rattle.calls.specs.declared.Found.{Found}
-use Rattle.calls.specs.declared.Paged.{Paged}
-use Rattle.calls.specs.declared.Listed.{Listed}
-use Rattle.calls.specs.declared.Removed.{Removed}
-use Rattle.calls.specs.Answers.{found_of, paged_of, listed_of, removed_of, counted_of, Lists}
+use Rattle.calls.specs.Answers.{found_of, paged_of, listed_of, removed_of, Lists, Found, Paged, Listed, Removed}
 use Rattle.calls.specs.Lemmas.Answers.{call_refused, call_accepted}
+use Rattle.laws.specs.Refusals.{Counted}
 
 abbrev pub FindMade : List ℕ → List ℕ → ℕ → Found → Type 0
 FindMade img name letter r = Made img (find name letter) (found_of r) [] img
@@ -29,7 +23,7 @@ abbrev pub RemoveMade : List ℕ → List ℕ → ℕ → Removed → List ℕ �
 RemoveMade img name letter r after = Made img (remove name letter) (removed_of r) [] after
 
 abbrev pub SalvageMade : List ℕ → List ℕ → Counted → List ℕ → List ℕ → Type 0
-SalvageMade img report r said after = Made img (salvage report) (counted_of r) said after
+SalvageMade img report r said after = Made img (salvage report) (found_of r) said after
 
 -- List promises its 12 bytes of a name besides.
 abbrev pub ListMade : List ℕ → ℕ → Listed → Type 0
@@ -44,7 +38,7 @@ unfolding step_image
 check_made img c e = go (check_of img) refl
   where
     go : (w : Checked) → check_of img ≡ w → Made img check (answer_of c) [] img
-    go (Refused q) r = rw (e ∙ r) (call_refused img check e (e ∙ r) (sym (ap refusal_of (e ∙ r))))
-    go (Accepted k d f n) r =
+    go (Err q) r = rw (e ∙ r) (call_refused img check e (e ∙ r))
+    go (Ok disk) r =
         let s = call_accepted img check refl r in
         rw (e, ← check_call img) (ap (λ (o : Outcome (List ℕ)). came o.answer [] img) s ∙ sym s)

@@ -11,76 +11,37 @@ ghost use Rattle.image.specs.Image.{files_in, DiskRules};
 ghost use Rattle.record.specs.Record.{is_legal, slot_of, file_at, judge_name, judge_put, listing, paging};
 ghost use Rattle.laws.specs.Refusals.{refusal_at};
 ghost use Rattle.rules.specs.Check.{came, salvage_as, call_of};
-ghost use Rattle.calls.specs.Answers.{found_of, found_by, paged_of, Lists, unlisted_by, unpaged_by, list_call, find_call, page_call, put_call, remove_call, salvage_call, removed_of, counted_of};
+ghost use Rattle.calls.specs.Answers.{found_of, paged_of, Lists, unpaged_by, list_call, find_call, page_call, put_call, remove_call, salvage_call, removed_of};
 ghost use Rattle.calls.specs.Metered.{page_cost, cost_in};
 
-// A slot, or a refusal.
-#[derive(Clone, Copy)]
-pub enum Found {
-    At(usize),
-    Refused(laws::Refusal),
-}
+use laws::Refusal;
+use rules::{Accepted, Format};
 
-// How many bytes a page has and whether the file ends with them, or a refusal.
+// How many bytes a page has, and whether the file ends with them.
 #[derive(Clone, Copy)]
-pub enum Paged {
-    Page { count: usize, end: bool },
-    Refused(laws::Refusal),
+pub struct Piece {
+    pub count: usize,
+    pub end: bool,
 }
 
 // What a page answers, and what it cost.
 #[derive(Clone, Copy)]
 pub struct Metered {
-    pub paged: Paged,
+    pub paged: Result<Piece, Refusal>,
     pub cost: pages::Cost,
 }
 
-// Done, or a refusal.
+// A file's name length, type byte and length, and its name in ASCII, then zeros.
 #[derive(Clone, Copy)]
-pub enum Removed {
-    Done,
-    Refused(laws::Refusal),
-}
-
-// A file's name length, type byte and length, or a refusal.
-#[derive(Clone, Copy)]
-pub enum Entry {
-    File {
-        letters: usize,
-        letter: u8,
-        length: usize,
-    },
-    Refused(laws::Refusal),
-}
-
-// An entry with its name in ASCII, then zeros.
-#[derive(Clone, Copy)]
-pub struct Listed {
-    pub entry: Entry,
+pub struct Entry {
+    pub letters: usize,
+    pub letter: u8,
+    pub length: usize,
     pub name: [u8; 12],
 }
 
-// A listing without a file.
-fn unlisted(refusal: laws::Refusal) -> Listed
-    ensures { result ≡ unlisted_by refusal }
-{
-    Listed {
-        entry: Entry::Refused(refusal),
-        name: [0; 12],
-    }
-}
-
-fn no_file() -> Listed
-    ensures { result ≡ unlisted_by (refusal_at 10 0) }
-{
-    unlisted(laws::Refusal {
-        number: 10,
-        place: 0,
-    })
-}
-
 // Lists a slot of an accepted image: 10 if it is empty or not there.
-fn list_slot(image: &[u8], layout: layout::Layout, slot: usize) -> Listed
+fn list_slot(image: &[u8], layout: layout::Layout, slot: usize) -> Result<Entry, Refusal>
     requires { LayoutRight layout × DiskRules layout image.now }
     ensures { Lists image.now (listing image.now (file_at layout (files_in layout image.now) slot)) result }
 {
@@ -88,24 +49,22 @@ fn list_slot(image: &[u8], layout: layout::Layout, slot: usize) -> Listed
     let directory = layout.directory;
     let letters = layout.letters;
     if slot >= slots {
-        return no_file();
+        return Err(Refusal::NoFile);
     }
     if !slots::is_used(image, layout, slot) {
-        return no_file();
+        return Err(Refusal::NoFile);
     }
     let letter = slots::type_of(image, layout, slot);
     let length = slots::size_of(image, layout, slot);
     let at = directory + 24 * slot;
     let end = at + 16;
     let name = names::name_of(layout, &image[at..end]);
-    Listed {
-        entry: Entry::File {
-            letters,
-            letter,
-            length,
-        },
+    Ok(Entry {
+        letters,
+        letter,
+        length,
         name,
-    }
+    })
 }
 
 // Whether a file may have the name and the type (refusal 11).
@@ -119,7 +78,7 @@ fn is_legal(layout: layout::Layout, name: &[u8], letter: u8) -> bool
 }
 
 // The slot of a file of an accepted image by its legal name and type.
-fn slot_named(image: &[u8], layout: layout::Layout, name: &[u8], letter: u8) -> laws::Lowest
+fn slot_named(image: &[u8], layout: layout::Layout, name: &[u8], letter: u8) -> Option<usize>
     requires { LayoutRight layout × DiskRules layout image.now × (is_legal layout name.now letter ≡ true) }
     ensures { result ≡ slot_of layout (files_in layout image.now) name.now letter }
 {
@@ -130,55 +89,29 @@ fn slot_named(image: &[u8], layout: layout::Layout, name: &[u8], letter: u8) -> 
 }
 
 // How find and remove are judged on an accepted image: 11, 10.
-fn judge_name(image: &[u8], layout: layout::Layout, name: &[u8], letter: u8) -> record::Judged
+fn judge_name(image: &[u8], layout: layout::Layout, name: &[u8], letter: u8) -> Result<usize, Refusal>
     requires { LayoutRight layout × DiskRules layout image.now }
     ensures { result ≡ judge_name layout (files_in layout image.now) name.now letter }
 {
     if !is_legal(layout, name, letter) {
-        return record::Judged::Refuse(laws::Refusal {
-            number: 11,
-            place: 0,
-        });
+        return Err(Refusal::IllegalName);
     }
-    let found = slot_named(image, layout, name, letter);
-    match found {
-        laws::Lowest::At(slot) => record::Judged::Grant(slot),
-        laws::Lowest::Nowhere => record::Judged::Refuse(laws::Refusal {
-            number: 10,
-            place: 0,
-        }),
-    }
-}
-
-// Find's answer by its judgement.
-fn found_by(judged: record::Judged) -> Found
-    ensures { result ≡ found_by judged }
-{
-    match judged {
-        record::Judged::Refuse(refusal) => Found::Refused(refusal),
-        record::Judged::Grant(slot) => Found::At(slot),
-    }
+    slot_named(image, layout, name, letter).ok_or(Refusal::NoFile)
 }
 
 // Put's last refusals, for a content of some length: 15, 16.
-fn judge_room(free: usize, size: usize, slot: usize) -> record::Judged
+fn judge_room(free: usize, size: usize, slot: usize) -> Result<usize, Refusal>
     requires { 1 ≤ size }
     ensures { result ≡ room_for free size slot }
 {
     let wanted = (size - 1) / 1024 + 1;
     if free < wanted {
-        return record::Judged::Refuse(laws::Refusal {
-            number: 15,
-            place: 0,
-        });
+        return Err(Refusal::DiskFull);
     }
     if size > 16777215 {
-        return record::Judged::Refuse(laws::Refusal {
-            number: 16,
-            place: 0,
-        });
+        return Err(Refusal::ContentTooLong);
     }
-    record::Judged::Grant(slot)
+    Ok(slot)
 }
 
 // How put is judged on an accepted image with so many free blocks: 11, 13, 12, 14, 15, 16.
@@ -189,45 +122,29 @@ fn judge_put(
     name: &[u8],
     letter: u8,
     size: usize,
-) -> record::Judged
+) -> Result<usize, Refusal>
     requires { LayoutRight layout × DiskRules layout image.now × (free ≡ free_count layout (map_at (bytes image.now))) }
     ensures { (content : List ℕ) → length content ≡ size → result ≡ judge_put layout (files_in layout image.now) name.now letter content }
 {
     if !is_legal(layout, name, letter) {
-        return record::Judged::Refuse(laws::Refusal {
-            number: 11,
-            place: 0,
-        });
+        return Err(Refusal::IllegalName);
     }
     if size == 0 {
-        return record::Judged::Refuse(laws::Refusal {
-            number: 13,
-            place: 0,
-        });
+        return Err(Refusal::EmptyContent);
     }
-    let taken = slot_named(image, layout, name, letter);
-    if let laws::Lowest::At(slot) = taken {
-        return record::Judged::Refuse(laws::Refusal {
-            number: 12,
-            place: slot,
-        });
+    if let Some(slot) = slot_named(image, layout, name, letter) {
+        return Err(Refusal::NameTaken(slot));
     }
-    let empty = slots::empty_slot(image, layout);
-    let laws::Lowest::At(slot) = empty else {
-        return record::Judged::Refuse(laws::Refusal {
-            number: 14,
-            place: 0,
-        });
-    };
+    let slot = slots::empty_slot(image, layout).ok_or(Refusal::DirectoryFull)?;
     judge_room(free, size, slot)
 }
 
 // A page that was refused, for which nothing was followed or copied.
-fn unpaged(refusal: laws::Refusal) -> Metered
+fn unpaged(refusal: Refusal) -> Metered
     ensures { result ≡ unpaged_by refusal }
 {
     Metered {
-        paged: Paged::Refused(refusal),
+        paged: Err(refusal),
         cost: pages::Cost { links: 0, runs: 0 },
     }
 }
@@ -246,86 +163,63 @@ fn page_slot(
 {
     let slots = layout.slots;
     if slots <= slot {
-        return unpaged(laws::Refusal {
-            number: 10,
-            place: 0,
-        });
+        return unpaged(Refusal::NoFile);
     }
     if !slots::is_used(image, layout, slot) {
-        return unpaged(laws::Refusal {
-            number: 10,
-            place: 0,
-        });
+        return unpaged(Refusal::NoFile);
     }
     let size = slots::size_of(image, layout, slot);
     if offset > size {
-        return unpaged(laws::Refusal {
-            number: 17,
-            place: 0,
-        });
+        return unpaged(Refusal::OffsetPastEnd);
     }
     let start = slots::start_of(image, layout, slot);
     let count = blocks::least(out.len(), size - offset);
     let links = (size - 1) / 1024;
     let cost = pages::page_runs(image, layout, links, start, offset, out, count);
     let end = offset + count == size;
-    let paged = Paged::Page { count, end };
-    Metered { paged, cost }
+    Metered {
+        paged: Ok(Piece { count, end }),
+        cost,
+    }
 }
 
 // What a slot holds.
-pub fn list(image: &[u8], slot: usize) -> Listed
+pub fn list(image: &[u8], slot: usize) -> Result<Entry, Refusal>
     ensures { Lists image.now (call_of image.now (list_call slot)) result }
 {
-    let checked = disk::check(image);
-    let rules::Checked::Accepted {
+    let Accepted {
         kind,
         density,
-        files: _,
-        free: _,
-    } = checked
-    else {
-        return unlisted(rules::refusal_of(checked));
-    };
+        ..
+    } = disk::check(image)?;
     let layout = layout::layout_of(kind, density);
     list_slot(image, layout, slot)
 }
 
 // The slot of the file with a name and a type.
-pub fn find(image: &[u8], name: &[u8], letter: u8) -> Found
+pub fn find(image: &[u8], name: &[u8], letter: u8) -> Result<usize, Refusal>
     ensures { came (found_of result) [] image.now ≡ call_of image.now (find_call name.now letter) }
 {
-    let checked = disk::check(image);
-    let rules::Checked::Accepted {
+    let Accepted {
         kind,
         density,
-        files: _,
-        free: _,
-    } = checked
-    else {
-        return Found::Refused(rules::refusal_of(checked));
-    };
+        ..
+    } = disk::check(image)?;
     let layout = layout::layout_of(kind, density);
-    found_by(judge_name(image, layout, name, letter))
+    judge_name(image, layout, name, letter)
 }
 
 // Bytes of a slot's file from an offset on, to the front of the output.
-pub fn page(image: &[u8], slot: usize, offset: usize, out: &mut [u8]) -> Paged
+pub fn page(image: &[u8], slot: usize, offset: usize, out: &mut [u8]) -> Result<Piece, Refusal>
     ensures { came (paged_of result) out.new image.now ≡ call_of image.now (page_call slot offset out.old) }
 {
-    let checked = disk::check(image);
-    let rules::Checked::Accepted {
+    let Accepted {
         kind,
         density,
-        files: _,
-        free: _,
-    } = checked
-    else {
-        return Paged::Refused(rules::refusal_of(checked));
-    };
+        ..
+    } = disk::check(image)?;
     let layout = layout::layout_of(kind, density);
-    let metered = page_slot(image, layout, slot, offset, out);
-    metered.paged
+    page_slot(image, layout, slot, offset, out).paged
 }
 
 // The same page, with what it cost.
@@ -333,94 +227,64 @@ pub fn metered_page(image: &[u8], slot: usize, offset: usize, out: &mut [u8]) ->
     ensures image_after { came (paged_of result.paged) out.new image.now ≡ call_of image.now (page_call slot offset out.old) }
     ensures cost_value { result.cost ≡ cost_in image.now slot offset (length out.old) }
 {
-    let checked = disk::check(image);
-    let rules::Checked::Accepted {
-        kind,
-        density,
-        files: _,
-        free: _,
-    } = checked
-    else {
-        return unpaged(rules::refusal_of(checked));
-    };
-    let layout = layout::layout_of(kind, density);
-    page_slot(image, layout, slot, offset, out)
+    match disk::check(image) {
+        Ok(Accepted { kind, density, .. }) => {
+            let layout = layout::layout_of(kind, density);
+            page_slot(image, layout, slot, offset, out)
+        }
+        Err(refusal) => unpaged(refusal),
+    }
 }
 
 // Puts a file: its slot.
-pub fn put(image: &mut [u8], name: &[u8], letter: u8, content: &[u8]) -> Found
+pub fn put(image: &mut [u8], name: &[u8], letter: u8, content: &[u8]) -> Result<usize, Refusal>
     ensures { came (found_of result) [] image.new ≡ call_of image.old (put_call name.now letter content.now) }
 {
-    let checked = disk::check(image);
-    let rules::Checked::Accepted {
+    let Accepted {
         kind,
         density,
-        files: _,
         free,
-    } = checked
-    else {
-        return Found::Refused(rules::refusal_of(checked));
-    };
+        ..
+    } = disk::check(image)?;
     let layout = layout::layout_of(kind, density);
-    let judged = judge_put(image, layout, free, name, letter, content.len());
-    let record::Judged::Grant(slot) = judged else {
-        return found_by(judged);
-    };
+    let slot = judge_put(image, layout, free, name, letter, content.len())?;
     let area = names::area_of(layout, name);
     changes::put_slot(image, layout, slot, area, letter, content);
-    Found::At(slot)
+    Ok(slot)
 }
 
 // Removes the file with a name and a type.
-pub fn remove(image: &mut [u8], name: &[u8], letter: u8) -> Removed
+pub fn remove(image: &mut [u8], name: &[u8], letter: u8) -> Result<(), Refusal>
     ensures { came (removed_of result) [] image.new ≡ call_of image.old (remove_call name.now letter) }
 {
-    let checked = disk::check(image);
-    let rules::Checked::Accepted {
+    let Accepted {
         kind,
         density,
-        files: _,
-        free: _,
-    } = checked
-    else {
-        return Removed::Refused(rules::refusal_of(checked));
-    };
+        ..
+    } = disk::check(image)?;
     let layout = layout::layout_of(kind, density);
-    let judged = judge_name(image, layout, name, letter);
-    match judged {
-        record::Judged::Refuse(refusal) => Removed::Refused(refusal),
-        record::Judged::Grant(slot) => {
-            changes::remove_slot(image, layout, slot);
-            Removed::Done
-        }
-    }
+    let slot = judge_name(image, layout, name, letter)?;
+    changes::remove_slot(image, layout, slot);
+    Ok(())
 }
 
 // The salvage run on an image of a known layout: 21.
-fn salvage_known(image: &mut [u8], layout: layout::Layout, report: &mut [u8]) -> laws::Counted
+fn salvage_known(image: &mut [u8], layout: layout::Layout, report: &mut [u8]) -> Result<usize, Refusal>
     requires { LayoutRight layout × (length image.old ≡ image_length layout) }
-    ensures { came (counted_of result) report.new image.new ≡ salvage_as layout image.old report.old }
+    ensures { came (found_of result) report.new image.new ≡ salvage_as layout image.old report.old }
 {
     let slots = layout.slots;
     if report.len() < slots {
-        return laws::Counted::Refused(laws::Refusal {
-            number: 21,
-            place: 0,
-        });
+        return Err(Refusal::OutputTooShort);
     }
-    laws::Counted::Done(mend::salvage(image, layout, report))
+    Ok(mend::salvage(image, layout, report))
 }
 
 // Mends an image: how many map values are others afterwards; what is said of each slot to the front of the report.
-pub fn salvage(image: &mut [u8], report: &mut [u8]) -> laws::Counted
-    ensures { came (counted_of result) report.new image.new ≡ call_of image.old (salvage_call report.old) }
+pub fn salvage(image: &mut [u8], report: &mut [u8]) -> Result<usize, Refusal>
+    ensures { came (found_of result) report.new image.new ≡ call_of image.old (salvage_call report.old) }
 {
-    let disk = disk::known(image, image.len());
-    match disk {
-        rules::Known::Disk { kind, density } => {
-            let layout = layout::layout_of(kind, density);
-            salvage_known(image, layout, report)
-        }
-        rules::Known::Unknown(refusal) => laws::Counted::Refused(refusal),
-    }
+    let Format { kind, density } = disk::known(image, image.len())?;
+    let layout = layout::layout_of(kind, density);
+    salvage_known(image, layout, report)
 }

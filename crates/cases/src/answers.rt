@@ -1,6 +1,7 @@
 // The calls' answers as lines.
 ghost use Rattle.std.specs.Prelude.{◌<◌};
 
+use laws::Refusal;
 use crate::print;
 use std::io::{Print, Result};
 use std::rt::Stdout;
@@ -189,10 +190,10 @@ pub(crate) fn cost(
 }
 
 // The answer of a salvage run, without its line's end.
-fn print_counted(output: Stdout, counted: laws::Counted) -> Result<()> {
+fn print_counted(output: Stdout, counted: Result<usize, Refusal>) -> Result<()> {
     match counted {
-        laws::Counted::Done(count) => print::number(output, b"count ", count),
-        laws::Counted::Refused(refusal) => print::refusal(output, refusal),
+        Ok(count) => print::number(output, b"count ", count),
+        Err(refusal) => print::refusal(output, refusal),
     }
 }
 

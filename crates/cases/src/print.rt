@@ -1,4 +1,5 @@
 // Answers on standard output: the listing program's functions make their text, and it is written here.
+use laws::Refusal;
 use std::io::{Print, Result};
 use std::rt::Stdout;
 
@@ -27,14 +28,14 @@ fn first(output: Stdout, out: &[u8; 24576], count: usize) -> Result<()> {
 }
 
 // A refusal, without its line's end.
-pub(crate) fn refusal(output: Stdout, answer: laws::Refusal) -> Result<()> {
+pub(crate) fn refusal(output: Stdout, answer: Refusal) -> Result<()> {
     let mut out = [0u8; 24576];
     let count = listing::put_refused(answer, &mut out, 0);
     first(output, &out, count)
 }
 
 // The line of a refusal.
-pub(crate) fn refused(output: Stdout, answer: laws::Refusal) -> Result<()> {
+pub(crate) fn refused(output: Stdout, answer: Refusal) -> Result<()> {
     refusal(output, answer)?;
     line_end(output)
 }

@@ -2,10 +2,9 @@
 // Only the check and the salvage run call these; that directory and map lie in the head is shown by its length.
 #![tactic(auto)]
 
-ghost use Rattle.std.specs.Prelude.{◌≡◌, false, ◌+◌, ◌-◌, ◌≤◌, ◌<◌, length, get_or, replicate};
+ghost use Rattle.std.specs.Prelude.{◌≡◌, false, ◌+◌, ◌-◌, ◌≤◌, ◌<◌, length, get_or, replicate, None};
 ghost use Rattle.laws.specs.Reader.{bytes};
 ghost use Rattle.laws.specs.Scan.{lowest, count};
-ghost use Rattle.laws.specs.declared.Lowest.TheVariants.{Nowhere};
 ghost use Rattle.layout.specs.Layouts.{slot_offset, map_offset, block_offset};
 ghost use Rattle.layout.specs.Right.{LayoutRight};
 ghost use Rattle.blocks.specs.Blocks.{links_for};
@@ -15,8 +14,10 @@ ghost use Rattle.view.specs.Rules.{bad_system, broken, sharing, stray};
 ghost use Rattle.image.specs.Image.{view_of};
 ghost use Rattle.chains.specs.Passes.{Followed, chain_rules, or_free, taken};
 
+use laws::Refusal;
+
 // The lowest system block that doesn't hold the system value (refusal 3).
-pub fn system_fault(head: &[u8], layout: layout::Layout) -> laws::Lowest
+pub fn system_fault(head: &[u8], layout: layout::Layout) -> Option<usize>
     requires { LayoutRight layout × (block_offset layout.first ≤ length head.now) }
     ensures { result ≡ lowest (bad_system layout (view_of layout (bytes head.now))) 0 layout.system }
 {
@@ -25,11 +26,11 @@ pub fn system_fault(head: &[u8], layout: layout::Layout) -> laws::Lowest
     let mut block = 0;
     while block < end {
         if map::map_at(head, block) != reserved {
-            return laws::Lowest::At(block);
+            return Some(block);
         }
         block += 1;
     }
-    laws::Lowest::Nowhere
+    None
 }
 
 // How many blocks of a slot's chain come after the first.
@@ -46,7 +47,7 @@ pub fn links_of(head: &[u8], layout: layout::Layout, slot: usize) -> usize
 
 // The lowest slot whose chain has a fault, refused by the chain's first one (6 or 7). The marks are left as those of all chains where
 // there is none.
-fn chain_fault(head: &[u8], layout: layout::Layout, marks: &mut [bool; 1600]) -> view::Ruled
+fn chain_fault(head: &[u8], layout: layout::Layout, marks: &mut [bool; 1600]) -> Result<(), Refusal>
     requires { LayoutRight layout × (block_offset layout.first ≤ length head.now) × (marks.old ≡ replicate 1600 false) }
     ensures { Followed layout (view_of layout (bytes head.now)) marks.new result }
 {
@@ -55,7 +56,7 @@ fn chain_fault(head: &[u8], layout: layout::Layout, marks: &mut [bool; 1600]) ->
     let mut next = 0;
     let fault = 'slots: loop {
         if end <= next {
-            break 'slots view::Ruled::Pass;
+            break 'slots Ok(());
         }
         let slot = next;
         next += 1;
@@ -67,7 +68,7 @@ fn chain_fault(head: &[u8], layout: layout::Layout, marks: &mut [bool; 1600]) ->
         let place = slot;
         loop {
             if !map::is_link(layout, block) {
-                break 'slots view::Ruled::Fail(laws::Refusal { number: 6, place });
+                break 'slots Err(Refusal::AstrayChain(place));
             }
             marks[block] = true;
             let value = map::map_at(head, block);
@@ -75,10 +76,10 @@ fn chain_fault(head: &[u8], layout: layout::Layout, marks: &mut [bool; 1600]) ->
                 if value == mark {
                     continue 'slots;
                 }
-                break 'slots view::Ruled::Fail(laws::Refusal { number: 7, place });
+                break 'slots Err(Refusal::MiscountedChain(place));
             }
             if value == mark {
-                break 'slots view::Ruled::Fail(laws::Refusal { number: 7, place });
+                break 'slots Err(Refusal::MiscountedChain(place));
             }
             block = value;
             left -= 1;
@@ -89,7 +90,7 @@ fn chain_fault(head: &[u8], layout: layout::Layout, marks: &mut [bool; 1600]) ->
 
 // How many blocks the chains of all slots have.
 fn count_chained(head: &[u8], layout: layout::Layout) -> usize
-    requires { LayoutRight layout × (block_offset layout.first ≤ length head.now) × (lowest (broken layout (view_of layout (bytes head.now))) 0 layout.slots ≡ Nowhere) }
+    requires { LayoutRight layout × (block_offset layout.first ≤ length head.now) × (lowest (broken layout (view_of layout (bytes head.now))) 0 layout.slots ≡ None) }
     ensures { result ≡ length (owned (view_of layout (bytes head.now)) layout.slots) }
 {
     let end = layout.slots;
@@ -125,8 +126,8 @@ fn count_marked(layout: layout::Layout, marks: &[bool; 1600]) -> usize
 }
 
 // The lowest slot whose chain shares a block with a lower slot's, by walking the chains in turn: its own comes upon a block marked before.
-fn share_fault(head: &[u8], layout: layout::Layout, marks: &mut [bool; 1600]) -> laws::Lowest
-    requires { LayoutRight layout × (block_offset layout.first ≤ length head.now) × (lowest (broken layout (view_of layout (bytes head.now))) 0 layout.slots ≡ Nowhere) × (marks.old ≡ replicate 1600 false) }
+fn share_fault(head: &[u8], layout: layout::Layout, marks: &mut [bool; 1600]) -> Option<usize>
+    requires { LayoutRight layout × (block_offset layout.first ≤ length head.now) × (lowest (broken layout (view_of layout (bytes head.now))) 0 layout.slots ≡ None) × (marks.old ≡ replicate 1600 false) }
     ensures { result ≡ lowest (sharing layout (view_of layout (bytes head.now))) 0 layout.slots }
 {
     let end = layout.slots;
@@ -140,20 +141,20 @@ fn share_fault(head: &[u8], layout: layout::Layout, marks: &mut [bool; 1600]) ->
         let links = links_of(head, layout, slot);
         let start = slots::start_of(head, layout, slot);
         if map::touches(head, layout, marks, links, start) {
-            return laws::Lowest::At(slot);
+            return Some(slot);
         }
         map::mark_chain(head, layout, marks, links, start);
     }
-    laws::Lowest::Nowhere
+    None
 }
 
 // The lowest slot whose chain shares a block with a lower slot's (refusal 8). Where as many blocks are marked as the chains have, there is none.
-fn shared_slot(head: &[u8], layout: layout::Layout, marked: usize) -> laws::Lowest
-    requires { LayoutRight layout × (block_offset layout.first ≤ length head.now) × (lowest (broken layout (view_of layout (bytes head.now))) 0 layout.slots ≡ Nowhere) × (marked ≡ taken layout (view_of layout (bytes head.now))) }
+fn shared_slot(head: &[u8], layout: layout::Layout, marked: usize) -> Option<usize>
+    requires { LayoutRight layout × (block_offset layout.first ≤ length head.now) × (lowest (broken layout (view_of layout (bytes head.now))) 0 layout.slots ≡ None) × (marked ≡ taken layout (view_of layout (bytes head.now))) }
     ensures { result ≡ lowest (sharing layout (view_of layout (bytes head.now))) 0 layout.slots }
 {
     if marked == count_chained(head, layout) {
-        return laws::Lowest::Nowhere;
+        return None;
     }
     let mut marks = [false; 1600];
     share_fault(head, layout, &mut marks)
@@ -171,7 +172,7 @@ fn is_stray(head: &[u8], layout: layout::Layout, marks: &[bool; 1600], block: us
 }
 
 // The lowest data block with a nonzero map value that is on no chain (refusal 9); the marks are those of all chains.
-fn stray_fault(head: &[u8], layout: layout::Layout, marks: &[bool; 1600]) -> laws::Lowest
+fn stray_fault(head: &[u8], layout: layout::Layout, marks: &[bool; 1600]) -> Option<usize>
     requires { LayoutRight layout × (block_offset layout.first ≤ length head.now) × Marks 1600 marks.now (owned (view_of layout (bytes head.now)) layout.slots) }
     ensures { result ≡ lowest (stray layout (view_of layout (bytes head.now))) layout.first (layout.blocks - layout.first) }
 {
@@ -180,11 +181,11 @@ fn stray_fault(head: &[u8], layout: layout::Layout, marks: &[bool; 1600]) -> law
     let mut block = first;
     while block <= last {
         if is_stray(head, layout, marks, block) {
-            return laws::Lowest::At(block);
+            return Some(block);
         }
         block += 1;
     }
-    laws::Lowest::Nowhere
+    None
 }
 
 // The number of free blocks. Counted in 16 bits, so that the compiler adds eight at a time.
@@ -211,42 +212,33 @@ fn stray_block(
     marks: &[bool; 1600],
     marked: usize,
     free: usize,
-) -> laws::Lowest
-    requires { LayoutRight layout × (block_offset layout.first ≤ length head.now) × (lowest (broken layout (view_of layout (bytes head.now))) 0 layout.slots ≡ Nowhere) × (marked ≡ taken layout (view_of layout (bytes head.now))) × (free ≡ free_count layout (map_at (bytes head.now))) × Marks 1600 marks.now (owned (view_of layout (bytes head.now)) layout.slots) }
+) -> Option<usize>
+    requires { LayoutRight layout × (block_offset layout.first ≤ length head.now) × (lowest (broken layout (view_of layout (bytes head.now))) 0 layout.slots ≡ None) × (marked ≡ taken layout (view_of layout (bytes head.now))) × (free ≡ free_count layout (map_at (bytes head.now))) × Marks 1600 marks.now (owned (view_of layout (bytes head.now)) layout.slots) }
     ensures { result ≡ lowest (stray layout (view_of layout (bytes head.now))) layout.first (layout.blocks - layout.first) }
 {
     let left = layout.blocks - layout.first - free;
     if marked == left {
-        return laws::Lowest::Nowhere;
+        return None;
     }
     stray_fault(head, layout, marks)
 }
 
 // Refusals 6 to 9: the chains, then what they share, then blocks on none of them; else the number of free blocks, which the last step counts.
-pub fn chain_rules(head: &[u8], layout: layout::Layout) -> laws::Counted
+pub fn chain_rules(head: &[u8], layout: layout::Layout) -> Result<usize, Refusal>
     requires { LayoutRight layout × (block_offset layout.first ≤ length head.now) }
     ensures { result ≡ or_free (chain_rules layout (view_of layout (bytes head.now))) (free_count layout (map_at (bytes head.now))) }
 {
     let mut marks = [false; 1600];
-    let fault = chain_fault(head, layout, &mut marks);
-    if let view::Ruled::Fail(refusal) = fault {
-        return laws::Counted::Refused(refusal);
-    }
+    chain_fault(head, layout, &mut marks)?;
     let marked = count_marked(layout, &marks);
     let shared = shared_slot(head, layout, marked);
-    if let laws::Lowest::At(slot) = shared {
-        return laws::Counted::Refused(laws::Refusal {
-            number: 8,
-            place: slot,
-        });
+    if let Some(slot) = shared {
+        return Err(Refusal::SharedBlock(slot));
     }
     let free = count_free(head, layout);
     let stray = stray_block(head, layout, &marks, marked, free);
-    if let laws::Lowest::At(block) = stray {
-        return laws::Counted::Refused(laws::Refusal {
-            number: 9,
-            place: block,
-        });
+    if let Some(block) = stray {
+        return Err(Refusal::StrayBlock(block));
     }
-    laws::Counted::Done(free)
+    Ok(free)
 }

@@ -38,9 +38,9 @@ fn write_entry(
 {
     blocks::copy_part(&area, 0, image, at, 16);
     image[at + 16] = letter;
-    blocks::store3(image, at + 17, size);
-    blocks::store2(image, at + 20, start);
-    blocks::store2(image, at + 22, identity);
+    blocks::store::<3>(image, at + 17, size);
+    blocks::store::<2>(image, at + 20, start);
+    blocks::store::<2>(image, at + 22, identity);
 }
 
 // Puts a file whose name has this area into a slot: its content in the lowest free blocks, in rising order.

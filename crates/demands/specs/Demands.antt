@@ -14,15 +14,12 @@
 --   KeptBelow (salvage/specs/Said): request six;
 --   judge_without and room_without (record/specs/Sixteen): request seven, of which no more has landed.
 -- That the code does so is what each function's contract says, and those are proved with it. Assumes nothing.
-use Rattle.std.specs.Prelude.{◌≡◌, refl, true, false, List, [], ◌∷◌, ◌++◌, map, ◌↔◌, ◌⊎◌, ℕ, ◌+◌, ◌-◌, ◌*◌, ◌/◌, ◌≤◌, ◌<◌, min, eqb, ℤ, Some, length, get_or, take, drop, replicate}
+use Rattle.std.specs.Prelude.{◌≡◌, refl, true, false, List, [], ◌∷◌, ◌++◌, map, ◌↔◌, ◌⊎◌, ℕ, ◌+◌, ◌-◌, ◌*◌, ◌/◌, ◌≤◌, ◌<◌, min, eqb, ℤ, length, get_or, take, drop, replicate, Some, Err, Ok, None}
 use Rattle.std.proofs.Math.Option.{none, some}
 use Rattle.std.proofs.Common.{inl, inr, arith, le-ltb}
 use Rattle.std.proofs.lemmas.List.Edits.{sets}
-use Rattle.laws.specs.declared.Lowest.TheVariants.{At, Nowhere}
 use Rattle.laws.specs.declared.Refusal.{Refusal}
-use Rattle.laws.specs.declared.Counted.TheVariants.{Done}
-use Rattle.laws.specs.declared.Counted.TheVariants as counted
-use Rattle.laws.specs.Refusals.{refusal_at, filled, unless}
+use Rattle.laws.specs.Refusals.{refusal_at, filled, unless, number_of, place_of}
 use Rattle.laws.specs.Truth.{pick}
 use Rattle.laws.specs.Lemmas.Truth.{clash}
 use Rattle.laws.specs.Scan.{total, count}
@@ -65,10 +62,8 @@ use Rattle.record.specs.Sixteen as sixteen
 use Rattle.record.specs.Spelling.{in_capitals}
 use Rattle.record.specs.Types.{Holds, Apart}
 use Rattle.record.proofs.Types as known
-use Rattle.rules.specs.declared.Checked.TheVariants.{Accepted, Refused}
-use Rattle.rules.specs.declared.Known.TheVariants.{Disk, Unknown}
-use Rattle.rules.specs.Check.{known_of, check_of, lent, came, salvage_of, call_of, Made}
-use Rattle.rules.proofs.Accepted as accepted
+use Rattle.rules.specs.Check.{known_of, check_of, lent, came, salvage_of, call_of, Made, known_as, accepting}
+use Rattle.rules.proofs.Accepts as accepted
 use Rattle.rules.specs.Accepted.{accepted_as}
 use Rattle.rules.proofs.Exactly as exactly
 use Rattle.rules.specs.Exactly.{Owed}
@@ -130,14 +125,14 @@ pub refused-numbered : (img : List ℕ) (c : Call) (r : Refusal) → (call_of im
 refused-numbered = small.refusal_numbered
 
 -- The calls that count: unpack, pack, the check of a program, the blocks of a file.
-pub counting_unchanged : (c : Counting) (r : Refusal) → (counting_of c).answer ≡ counted.Refused r → (1 ≤ r.number) × ((counting_of c).output ≡ lent_to c)
+pub counting_unchanged : (c : Counting) (r : Refusal) → (counting_of c).answer ≡ Err r → (1 ≤ number_of r) × ((counting_of c).output ≡ lent_to c)
 counting_unchanged = counting.counting_kept
 
 -- The order in which a call's refusals are asked for, judged on the record. Find and remove: 11, 10.
 pub find_illegal : (k : Kind) (d : Density) (files : Files) (name : List ℕ) (type : ℕ) → is_legal (layout_of k d) name type ≡ false → judge_name (layout_of k d) files name type ≡ refuse 11 0
 find_illegal k d = order.order_illegal (layout_of k d)
 
-pub find_missing : (k : Kind) (d : Density) (files : Files) (name : List ℕ) (type : ℕ) → is_legal (layout_of k d) name type ≡ true → slot_of (layout_of k d) files name type ≡ Nowhere
+pub find_missing : (k : Kind) (d : Density) (files : Files) (name : List ℕ) (type : ℕ) → is_legal (layout_of k d) name type ≡ true → slot_of (layout_of k d) files name type ≡ None
     → judge_name (layout_of k d) files name type ≡ refuse 10 0
 find_missing k d = order.order_missing (layout_of k d)
 
@@ -162,15 +157,15 @@ pub put_empty : (k : Kind) (d : Density) (files : Files) (name : List ℕ) (type
 put_empty k d = order.order_empty (layout_of k d)
 
 pub put_taken : (k : Kind) (d : Density) (files : Files) (name : List ℕ) (type : ℕ) (content : List ℕ) → is_legal (layout_of k d) name type ≡ true
-    → (length content ≡ 0 → ⊥) → {s : ℕ} → slot_of (layout_of k d) files name type ≡ At s → judge_put (layout_of k d) files name type content ≡ refuse 12 s
+    → (length content ≡ 0 → ⊥) → {s : ℕ} → slot_of (layout_of k d) files name type ≡ Some s → judge_put (layout_of k d) files name type content ≡ refuse 12 s
 put_taken k d = order.order_taken (layout_of k d)
 
 pub put_full : (k : Kind) (d : Density) (files : Files) (name : List ℕ) (type : ℕ) (content : List ℕ) → is_legal (layout_of k d) name type ≡ true
-    → (length content ≡ 0 → ⊥) → slot_of (layout_of k d) files name type ≡ Nowhere → empty_slot (layout_of k d) files ≡ Nowhere → judge_put (layout_of k d) files name type content ≡ refuse 14 0
+    → (length content ≡ 0 → ⊥) → slot_of (layout_of k d) files name type ≡ None → empty_slot (layout_of k d) files ≡ None → judge_put (layout_of k d) files name type content ≡ refuse 14 0
 put_full k d = order.order_full (layout_of k d)
 
 pub put_room : (k : Kind) (d : Density) (files : Files) (name : List ℕ) (type : ℕ) (content : List ℕ) → is_legal (layout_of k d) name type ≡ true
-    → (length content ≡ 0 → ⊥) → {s : ℕ} → slot_of (layout_of k d) files name type ≡ Nowhere → empty_slot (layout_of k d) files ≡ At s
+    → (length content ≡ 0 → ⊥) → {s : ℕ} → slot_of (layout_of k d) files name type ≡ None → empty_slot (layout_of k d) files ≡ Some s
     → judge_put (layout_of k d) files name type content ≡ room_for (free (layout_of k d) files) (length content) s
 put_room k d = order.order_room (layout_of k d)
 
@@ -180,12 +175,12 @@ pub accepted_exactly : (k : Kind) (d : Density) (img : List ℕ) → (check_of i
 accepted_exactly = accepted.accepted
 
 -- The number of files, and the free blocks counted in the map.
-pub accepted_counts : (k : Kind) (d : Density) (f n : ℕ) (img : List ℕ) → check_of img ≡ Accepted k d f n
+pub accepted_counts : (k : Kind) (d : Density) (f n : ℕ) (img : List ℕ) → check_of img ≡ accepting k d f n
     → (f ≡ file_count (layout_of k d) (files_in (layout_of k d) img)) × (n ≡ free_count (layout_of k d) (map_at (bytes img)))
 accepted_counts = accepted.accepted_counts
 
 -- Otherwise refused: by each of 1 to 9 exactly when it is due, at its place.
-pub refused_exactly : (img : List ℕ) (r : Refusal) → (check_of img ≡ Refused r) ↔ Owed img r
+pub refused_exactly : (img : List ℕ) (r : Refusal) → (check_of img ≡ Err r) ↔ Owed img r
 refused_exactly = exactly.refused_exactly
 
 -- The check reads length, directory and map alone: of the two directories that may be there the one in use, and byte 16, which tells it.
@@ -194,7 +189,7 @@ pub check_reads : (x y : List ℕ) → length y ≡ length x → bytes y 16 ≡ 
 check_reads = head.check_reads
 
 -- Pages are the file's bytes: as many as the output holds and the file has left; the end is reached exactly if none is left after them.
-pub page-bytes : (k : Kind) (d : Density) (f n : ℕ) (img : List ℕ) → check_of img ≡ Accepted k d f n → (slot : ℕ) (file : File) → files_in (layout_of k d) img slot ≡ some file
+pub page-bytes : (k : Kind) (d : Density) (f n : ℕ) (img : List ℕ) → check_of img ≡ accepting k d f n → (slot : ℕ) (file : File) → files_in (layout_of k d) img slot ≡ some file
     → (offset : ℕ) (out : List ℕ) → offset ≤ length file.content
     → let count = min (length out) (length file.content - offset) in
     call_of img (page slot offset out) ≡ came (paged count (eqb (offset + count) (length file.content))) (part file.content offset count ++ drop count out) img
@@ -202,37 +197,37 @@ page-bytes = demand.page-bytes
 
 -- Unpacking and packing follow the published layouts: accepted exactly by their rules.
 pub unpack_exactly : (sampler : Sampler) (file : List ℕ) (words : List ℤ)
-    → ((unpack_of sampler file words).answer ≡ Done (count_in sampler (header_of sampler file))) ↔ (SampleRules sampler file × (count_in sampler (header_of sampler file) ≤ length words))
+    → ((unpack_of sampler file words).answer ≡ Ok (count_in sampler (header_of sampler file))) ↔ (SampleRules sampler file × (count_in sampler (header_of sampler file) ≤ length words))
 unpack_exactly = codecs_proved.unpack_accepted
 
 pub pack_exactly : (sampler : Sampler) (header : List ℕ) (words : List ℤ) (out : List ℕ) → Words words
-    → ((pack_of sampler header words out).answer ≡ Done (file_size sampler (length words))) ↔ PackRules sampler header words out
+    → ((pack_of sampler header words out).answer ≡ Ok (file_size sampler (length words))) ↔ PackRules sampler header words out
 pack_exactly = codecs.pack_accepted
 
 -- They undo each other: what was packed has its header, and unpacks to the words; what was unpacked packs to the file.
-pub packed_header : (sampler : Sampler) (header : List ℕ) (words : List ℤ) (out : List ℕ) (size : ℕ) → (pack_of sampler header words out).answer ≡ Done size
+pub packed_header : (sampler : Sampler) (header : List ℕ) (words : List ℤ) (out : List ℕ) (size : ℕ) → (pack_of sampler header words out).answer ≡ Ok size
     → header_of sampler (take size (pack_of sampler header words out).output) ≡ header
 packed_header = codecs.header_packed
 
-pub packed_unpacks : (sampler : Sampler) (header : List ℕ) (words : List ℤ) (out : List ℕ) (size : ℕ) → (pack_of sampler header words out).answer ≡ Done size → Words words → (into : List ℤ)
-    → unpack_of sampler (take size (pack_of sampler header words out).output) into ≡ unless 21 (room_fault (length into) (length words)) into (filled (Done (length words)) (sets into 0 words))
+pub packed_unpacks : (sampler : Sampler) (header : List ℕ) (words : List ℤ) (out : List ℕ) (size : ℕ) → (pack_of sampler header words out).answer ≡ Ok size → Words words → (into : List ℤ)
+    → unpack_of sampler (take size (pack_of sampler header words out).output) into ≡ unless 21 (room_fault (length into) (length words)) into (filled (Ok (length words)) (sets into 0 words))
 packed_unpacks = codecs.unpack_packed
 
-pub unpacked_packs : (sampler : Sampler) (file : List ℕ) (words : List ℤ) (count : ℕ) → Bytes file → (unpack_of sampler file words).answer ≡ Done count → (out : List ℕ)
-    → pack_of sampler (header_of sampler file) (take count (unpack_of sampler file words).output) out ≡ unless 21 (room_fault (length out) (length file)) out (filled (Done (length file)) (splice out 0 file))
+pub unpacked_packs : (sampler : Sampler) (file : List ℕ) (words : List ℤ) (count : ℕ) → Bytes file → (unpack_of sampler file words).answer ≡ Ok count → (out : List ℕ)
+    → pack_of sampler (header_of sampler file) (take count (unpack_of sampler file words).output) out ≡ unless 21 (room_fault (length out) (length file)) out (filled (Ok (length file)) (splice out 0 file))
 unpacked_packs = codecs_proved.pack_unpacked
 
 -- Programs: accepted with n keygroups exactly by their rules, else refused at the lowest failing offset.
-pub program_exactly : (file : List ℕ) (n : ℕ) → (program_of file ≡ Done n) ↔ ProgramRules file n
+pub program_exactly : (file : List ℕ) (n : ℕ) → (program_of file ≡ Ok n) ↔ ProgramRules file n
 program_exactly = programs.program_accepted
 
-pub program_lowest : (file : List ℕ) (n : ℕ) (r : Refusal) → Sized file n → program_of file ≡ counted.Refused r → (r.number ≡ 20) × Least (Fails file n) r.place
+pub program_lowest : (file : List ℕ) (n : ℕ) (r : Refusal) → Sized file n → program_of file ≡ Err r → (number_of r ≡ 20) × Least (Fails file n) (place_of r)
 program_lowest = programs.program_lowest
 
 -- ---- Demand 3: any sequence of calls on an accepted image
 
 -- Before the first call and after each: free blocks and files make the data area.
-pub free_blocks_is : (k : Kind) (d : Density) (f n : ℕ) (img : List ℕ) → check_of img ≡ Accepted k d f n
+pub free_blocks_is : (k : Kind) (d : Density) (f n : ℕ) (img : List ℕ) → check_of img ≡ accepting k d f n
     → (n ≡ free_count (layout_of k d) (map_at (bytes img))) × (n + total (λ s. takes (files_in (layout_of k d) img s)) 0 (layout_of k d).slots ≡ data_blocks (layout_of k d))
 free_blocks_is = demand.free_blocks_is
 
@@ -241,16 +236,16 @@ data_areas = (refl, refl, refl, refl, refl)
 
 -- Whatever calls are made, each on the image that the last one left: after each of them answer, output, image and files are the record's, files that
 -- it doesn't name stay, the free blocks are right, a put has room or not, and downloads join (`Kept`, one field each).
-pub record_kept : (k : Kind) (d : Density) (f n : ℕ) (img : List ℕ) → check_of img ≡ Accepted k d f n → (ts : List Turn) → Ran img ts → Behaves k d img (files_in (layout_of k d) img) ts
+pub record_kept : (k : Kind) (d : Density) (f n : ℕ) (img : List ℕ) → check_of img ≡ accepting k d f n → (ts : List Turn) → Ran img ts → Behaves k d img (files_in (layout_of k d) img) ts
 record_kept = demand.demand_3
 
 -- The same of C's functions, from their results alone.
-pub record_kept_c : (k : Kind) (d : Density) (f n : ℕ) (img : List ℕ) → check_of img ≡ Accepted k d f n → (ts : List CTurn) → CRan (layout_of k d) img ts
+pub record_kept_c : (k : Kind) (d : Density) (f n : ℕ) (img : List ℕ) → check_of img ≡ accepting k d f n → (ts : List CTurn) → CRan (layout_of k d) img ts
     → Behaves k d img (files_in (layout_of k d) img) (turns_in (layout_of k d) img ts)
 record_kept_c = sequence_proved.demand_3_c
 
 -- The same of a script of calls that C lends whole.
-pub record_kept_script : (k : Kind) (d : Density) (f n : ℕ) (img script pool out : List ℕ) → check_of img ≡ Accepted k d f n
+pub record_kept_script : (k : Kind) (d : Density) (f n : ℕ) (img script pool out : List ℕ) → check_of img ≡ accepting k d f n
     → let ts = turns script pool (entries script out) 0 img out in
     (run_of img script pool out ≡ leave out 0 img ts) × Behaves k d img (files_in (layout_of k d) img) ts
 record_kept_script = scripts.script_serves
@@ -262,13 +257,13 @@ nothing_else = outside.nothing_else
 pub length_kept : (img : List ℕ) (c : Call) → length (call_of img c).state ≡ length img
 length_kept = outside.length_kept
 
-pub label_kept : (d : Density) (f n : ℕ) (img : List ℕ) → check_of img ≡ Accepted S1000 d f n → (c : Call) (i : ℕ)
+pub label_kept : (d : Density) (f n : ℕ) (img : List ℕ) → check_of img ≡ accepting S1000 d f n → (c : Call) (i : ℕ)
     → map_offset (layout_of S1000 d).blocks ≤ i → i < block_offset (layout_of S1000 d).first → bytes (call_of img c).state i ≡ bytes img i
 label_kept = outside.label_kept
 
 -- ---- What C gets: each result tells the record's answer whole
 
-pub result_tells : (k : Kind) (d : Density) (f n : ℕ) (img : List ℕ) → check_of img ≡ Accepted k d f n → (t : CTurn)
+pub result_tells : (k : Kind) (d : Density) (f n : ℕ) (img : List ℕ) → check_of img ≡ accepting k d f n → (t : CTurn)
     → let u = turn_in (layout_of k d) img t in t ≡ told_of img u.call → Made img u.call u.answer u.output u.after
 result_tells = sequence_proved.told_made
 
@@ -296,7 +291,7 @@ pub mark_sum : (d : Density) → (layout_of S1000 d).mark ≡ (layout_of S900 d)
 mark_sum = right.mark_sum
 
 -- In reading and in put: after any call on an accepted disk the last block of every file holds it.
-pub s1000_ends : (d : Density) (f n : ℕ) (img : List ℕ) → check_of img ≡ Accepted S1000 d f n → (c : Call) (slot : ℕ) (file : File)
+pub s1000_ends : (d : Density) (f n : ℕ) (img : List ℕ) → check_of img ≡ accepting S1000 d f n → (c : Call) (slot : ℕ) (file : File)
     → let after = (call_of img c).state in files_in (layout_of S1000 d) after slot ≡ some file → map_at (bytes after) (last_block (layout_of S1000 d) after slot) ≡ 49152
 s1000_ends = mark.ends_on_mark S1000
 
@@ -304,7 +299,7 @@ pub old_mark : (d : Density) → Other (layout_of S1000 d) 19152
 old_mark d = (λ h. omega (arith, h.1, (layout_right S1000 d).blocks_most), λ e. omega arith)
 
 -- No data block of an accepted disk holds it. Before a chain's last block it is 6, at it 7, and where no chain has the block 9.
-pub old_mark_refused : (d : Density) (f n : ℕ) (img : List ℕ) → check_of img ≡ Accepted S1000 d f n → (block : ℕ) → Data (layout_of S1000 d) block → map_at (bytes img) block ≡ 19152 → ⊥
+pub old_mark_refused : (d : Density) (f n : ℕ) (img : List ℕ) → check_of img ≡ accepting S1000 d f n → (block : ℕ) → Data (layout_of S1000 d) block → map_at (bytes img) block ≡ 19152 → ⊥
 old_mark_refused d f n img accept block inside e = let z = mark.no_other-value S1000 d f n img accept block inside (rw e (old_mark d)) in omega arith
 
 pub old_mark_before : (d : Density) (m : ℕ → ℕ) (links start j : ℕ) → j < links → Reaches (layout_of S1000 d) m links start j → m (get_or (chain m links start) j 0) ≡ 19152
@@ -350,36 +345,36 @@ pub name_back : (k : Kind) (d : Density) (name : List ℕ) → legal_name (layou
 name_back k d = names_proved.name_back (layout_of k d) (layout_right k d)
 
 -- Two spellings that fold alike are one name: calls that differ in nothing else come to the same, in answer, output and image.
-pub one_name : (k : Kind) (d : Density) (f n : ℕ) (img : List ℕ) → check_of img ≡ Accepted k d f n → (c e : Call) → in_capitals (layout_of k d) c ≡ in_capitals (layout_of k d) e → call_of img c ≡ call_of img e
+pub one_name : (k : Kind) (d : Density) (f n : ℕ) (img : List ℕ) → check_of img ≡ accepting k d f n → (c e : Call) → in_capitals (layout_of k d) c ≡ in_capitals (layout_of k d) e → call_of img c ≡ call_of img e
 one_name = spelling.one_name
 
 -- Capitals are kept: by a put, and so by every file on a disk; list gives them.
-pub put_keeps-capitals : (k : Kind) (d : Density) (f n : ℕ) (img : List ℕ) → check_of img ≡ Accepted k d f n → (name : List ℕ) (type : ℕ) (content : List ℕ) (slot : ℕ)
+pub put_keeps-capitals : (k : Kind) (d : Density) (f n : ℕ) (img : List ℕ) → check_of img ≡ accepting k d f n → (name : List ℕ) (type : ℕ) (content : List ℕ) (slot : ℕ)
     → (call_of img (put name type content)).answer ≡ valued slot → files_in (layout_of k d) (call_of img (put name type content)).state slot ≡ some (kept_file (layout_of k d) name type content)
 put_keeps-capitals = spelling.put_keeps
 
-pub names_in_capitals : (k : Kind) (d : Density) (f n : ℕ) (img : List ℕ) → check_of img ≡ Accepted k d f n → (slot : ℕ) (file : File) → files_in (layout_of k d) img slot ≡ some file
+pub names_in_capitals : (k : Kind) (d : Density) (f n : ℕ) (img : List ℕ) → check_of img ≡ accepting k d f n → (slot : ℕ) (file : File) → files_in (layout_of k d) img slot ≡ some file
     → capitals (layout_of k d) file.name ≡ file.name
 names_in_capitals = spelling.kept_name_is
 
 -- Find, put and remove follow: every spelling of a file's name, with its type, finds it, is taken, and removes it.
-pub spelling_found : (k : Kind) (d : Density) (f n : ℕ) (img : List ℕ) → check_of img ≡ Accepted k d f n → (slot : ℕ) (file : File) → files_in (layout_of k d) img slot ≡ some file
+pub spelling_found : (k : Kind) (d : Density) (f n : ℕ) (img : List ℕ) → check_of img ≡ accepting k d f n → (slot : ℕ) (file : File) → files_in (layout_of k d) img slot ≡ some file
     → (name : List ℕ) → capitals (layout_of k d) name ≡ file.name → call_of img (find name file.type) ≡ came (valued slot) [] img
 spelling_found = spelling.found
 
-pub spelling_taken : (k : Kind) (d : Density) (f n : ℕ) (img : List ℕ) → check_of img ≡ Accepted k d f n → (slot : ℕ) (file : File) → files_in (layout_of k d) img slot ≡ some file
+pub spelling_taken : (k : Kind) (d : Density) (f n : ℕ) (img : List ℕ) → check_of img ≡ accepting k d f n → (slot : ℕ) (file : File) → files_in (layout_of k d) img slot ≡ some file
     → (name : List ℕ) → capitals (layout_of k d) name ≡ file.name → (content : List ℕ) → (length content ≡ 0 → ⊥)
     → call_of img (put name file.type content) ≡ came (refused 12 slot) [] img
 spelling_taken = spelling.taken
 
-pub spelling_removed : (k : Kind) (d : Density) (f n : ℕ) (img : List ℕ) → check_of img ≡ Accepted k d f n → (slot : ℕ) (file : File) → files_in (layout_of k d) img slot ≡ some file
+pub spelling_removed : (k : Kind) (d : Density) (f n : ℕ) (img : List ℕ) → check_of img ≡ accepting k d f n → (slot : ℕ) (file : File) → files_in (layout_of k d) img slot ≡ some file
     → (name : List ℕ) → capitals (layout_of k d) name ≡ file.name → call_of img (remove name file.type) ≡ came done [] (remove_image (layout_of k d) img slot)
 spelling_removed = spelling.removed
 
 -- ---- Request three: a page carries on from the block it stands in, and what it cost is told
 
 -- What a page answers and gives is as before (`page-bytes`). It costs what its bytes do, by their place in the file; a refused page costs nothing.
-pub page_cost_is : (k : Kind) (d : Density) (f n : ℕ) (img : List ℕ) → check_of img ≡ Accepted k d f n → (slot : ℕ) (file : File) → files_in (layout_of k d) img slot ≡ some file
+pub page_cost_is : (k : Kind) (d : Density) (f n : ℕ) (img : List ℕ) → check_of img ≡ accepting k d f n → (slot : ℕ) (file : File) → files_in (layout_of k d) img slot ≡ some file
     → (offset room : ℕ) → cost_in img slot offset room ≡ cost_of (blocks_for (length file.content)) offset (min room (length file.content - offset))
 page_cost_is = costs.page_cost_is
 
@@ -409,23 +404,23 @@ blocks_between = cost.blocks_between
 pub salvage_any : (img report : List ℕ) → call_of img (salvage report) ≡ salvage_of img report
 salvage_any = salvaged_proved.salvage_call_is
 
-pub known_exactly : (img : List ℕ) (k : Kind) (d : Density) → (known_of img ≡ Disk k d) ↔ ((length img ≡ length_of d) × OfKind (layout_of k d) (bytes img))
+pub known_exactly : (img : List ℕ) (k : Kind) (d : Density) → (known_of img ≡ known_as k d) ↔ ((length img ≡ length_of d) × OfKind (layout_of k d) (bytes img))
 known_exactly img k d = (accepted.known_is (length img) (bytes img) k d, λ p. accepted.is_known (length img) (bytes img) k d p.0 p.1)
 
-pub unknown_refused : (img : List ℕ) (r : Refusal) → known_of img ≡ Unknown r → check_of img ≡ Refused r
+pub unknown_refused : (img : List ℕ) (r : Refusal) → known_of img ≡ Err r → check_of img ≡ Err r
 unknown_refused img r = steps.head_unknown (bytes img) (length img)
 
 pub salvage_refuses : (img report : List ℕ) (r : Refusal)
     → ((salvage_of img report).answer.refusal ≡ some r)
-    ↔ ((known_of img ≡ Unknown r) ⊎ ((k : Kind) × (d : Density) × (known_of img ≡ Disk k d) × (length report < (layout_of k d).slots) × (r ≡ refusal_at 21 0)))
+    ↔ ((known_of img ≡ Err r) ⊎ ((k : Kind) × (d : Density) × (known_of img ≡ known_as k d) × (length report < (layout_of k d).slots) × (r ≡ refusal_at 21 0)))
 salvage_refuses = salvaged_proved.salvage_refuses
 
-pub salvage_done : (k : Kind) (d : Density) (img : List ℕ) → known_of img ≡ Disk k d → (report : List ℕ) → (layout_of k d).slots ≤ length report
+pub salvage_done : (k : Kind) (d : Density) (img : List ℕ) → known_of img ≡ known_as k d → (report : List ℕ) → (layout_of k d).slots ≤ length report
     → let l = layout_of k d in salvage_of img report ≡ came (valued (map_changes l img (salvage_image l img))) (report_after l img report) (salvage_image l img)
 salvage_done = salvaged.salvage_done
 
 -- The result is always accepted, as the kind and density that it was.
-pub salvage_accepted : (k : Kind) (d : Density) (img : List ℕ) → known_of img ≡ Disk k d → check_of (salvage_image (layout_of k d) img) ≡ accepted_as k d (salvage_image (layout_of k d) img)
+pub salvage_accepted : (k : Kind) (d : Density) (img : List ℕ) → known_of img ≡ known_as k d → check_of (salvage_image (layout_of k d) img) ≡ accepted_as k d (salvage_image (layout_of k d) img)
 salvage_accepted = salvaged_proved.salvage_accepted
 
 -- The report: a byte for each slot, and those past the slots are kept.
@@ -439,7 +434,7 @@ report_past k d = salvages.report_past (layout_of k d)
 pub report_exactly : (k : Kind) (d : Density) (v : View) (s : ℕ) → s < (layout_of k d).slots → (n : ℕ) → (report_of (layout_of k d) v s ≡ n) ↔ Said (layout_of k d) (disk_after (layout_of k d) v s) s n
 report_exactly k d = said.report_exactly (layout_of k d) (layout_right k d)
 
-module _ (k : Kind) (d : Density) (img : List ℕ) (known : known_of img ≡ Disk k d) where
+module _ (k : Kind) (d : Density) (img : List ℕ) (known : known_of img ≡ known_as k d) where
   abbrev l : Layout
   l = layout_of k d
 
@@ -497,7 +492,7 @@ module _ (k : Kind) (d : Density) (img : List ℕ) (known : known_of img ≡ Dis
   salvage_again = salvaged_proved.salvage_again k d img known
 
 -- An accepted image comes back untouched, with 0 and 1 in the report, and a count of 0.
-pub salvage_same : (k : Kind) (d : Density) (f n : ℕ) (img : List ℕ) → check_of img ≡ Accepted k d f n → (report : List ℕ) → (layout_of k d).slots ≤ length report
+pub salvage_same : (k : Kind) (d : Density) (f n : ℕ) (img : List ℕ) → check_of img ≡ accepting k d f n → (report : List ℕ) → (layout_of k d).slots ≤ length report
     → salvage_of img report ≡ came (valued 0) (kept_report (layout_of k d) (files_in (layout_of k d) img) report) img
 salvage_same = salvaged_proved.salvage_same
 
@@ -515,22 +510,22 @@ pub s3000_layout : layout_of S3000 High
 s3000_layout = refl
 
 -- It is known by its length and by 255 as slot 0's type in the first directory, whatever the identities; a low image with that 255 is refused by 2.
-pub s3000_known : (img : List ℕ) → (known_of img ≡ Disk S3000 High) ↔ ((length img ≡ 1638400) × (bytes img 16 ≡ 255))
+pub s3000_known : (img : List ℕ) → (known_of img ≡ known_as S3000 High) ↔ ((length img ≡ 1638400) × (bytes img 16 ≡ 255))
 s3000_known = second_proved.s3000_known
 
-pub passed_over-low : (img : List ℕ) → length img ≡ 819200 → bytes img 16 ≡ 255 → check_of img ≡ Refused (refusal_at 2 0)
+pub passed_over-low : (img : List ℕ) → length img ≡ 819200 → bytes img 16 ≡ 255 → check_of img ≡ Err (refusal_at 2 0)
 passed_over-low = second_proved.passed_over-low
 
 -- No call reads the first directory but byte 16: disks that differ in nothing else get the same answers and outputs, and differ in nothing else afterwards.
-pub first_unread : (x y : List ℕ) → known_of x ≡ Disk S3000 High → SameButFirst x y → (c : Call) → Unseen (call_of x c) (call_of y c)
+pub first_unread : (x y : List ℕ) → known_of x ≡ known_as S3000 High → SameButFirst x y → (c : Call) → Unseen (call_of x c) (call_of y c)
 first_unread x y known same = unread.first_unread S3000 High refl x y known same
 
 -- Nor does any call change it.
-pub first_kept : (img : List ℕ) → known_of img ≡ Disk S3000 High → (i : ℕ) → i < 1536 → (c : Call) → bytes (call_of img c).state i ≡ bytes img i
+pub first_kept : (img : List ℕ) → known_of img ≡ known_as S3000 High → (i : ℕ) → i < 1536 → (c : Call) → bytes (call_of img c).state i ≡ bytes img i
 first_kept img known i low = unread.first_kept S3000 High refl img known i low
 
 -- Nor, on an accepted disk, what lies between the map and the directory in use, where the volume label is.
-pub s3000_label_kept : (f n : ℕ) (img : List ℕ) → check_of img ≡ Accepted S3000 High f n → (c : Call) (i : ℕ) → 4736 ≤ i → i < 5120 → bytes (call_of img c).state i ≡ bytes img i
+pub s3000_label_kept : (f n : ℕ) (img : List ℕ) → check_of img ≡ accepting S3000 High f n → (c : Call) (i : ℕ) → 4736 ≤ i → i < 5120 → bytes (call_of img c).state i ≡ bytes img i
 s3000_label_kept f n img accept c i p q = outside.system_kept S3000 High f n img accept c i (omega arith) (inr p) (inl q)
 
 -- A used slot is well formed exactly so: legal name and 0,0,0,2, type, length, identity 0,12.
@@ -543,20 +538,20 @@ pub empty_unjudged : (v : View) (slot : ℕ) → used (v.entry slot) ≡ false �
 empty_unjudged v slot empty number broken = clash broken.1.1 empty
 
 -- Put writes the slot whole: the name's letters and 0,0,0,2, the type byte itself, the length, and 0,12 over whatever identity stood there.
-pub s3000_put : (f n : ℕ) (img : List ℕ) → check_of img ≡ Accepted S3000 High f n → (name : List ℕ) (type : ℕ) (content : List ℕ) (slot : ℕ) → (call_of img (put name type content)).answer ≡ valued slot
+pub s3000_put : (f n : ℕ) (img : List ℕ) → check_of img ≡ accepting S3000 High f n → (name : List ℕ) (type : ℕ) (content : List ℕ) (slot : ℕ) → (call_of img (put name type content)).answer ≡ valued slot
     → let e = (view_of (layout_of S3000 High) (bytes (call_of img (put name type content)).state)).entry slot in
     (e.area ≡ map (to_disk (layout_of S3000 High)) name ++ (0 ∷ 0 ∷ 0 ∷ 2 ∷ [])) × (e.type ≡ type) × (e.size ≡ length content) × (e.identity ≡ 3072)
 unfolding new_entry area_of padding
 s3000_put f n img accept name type content slot a = rw (second_proved.put_writes S3000 High f n img accept name type content slot a) (refl, refl, refl, refl)
 
 -- Remove leaves 0,12.
-pub s3000_remove : (f n : ℕ) (img : List ℕ) → check_of img ≡ Accepted S3000 High f n → (slot : ℕ) (file : File) → files_in (layout_of S3000 High) img slot ≡ some file
+pub s3000_remove : (f n : ℕ) (img : List ℕ) → check_of img ≡ accepting S3000 High f n → (slot : ℕ) (file : File) → files_in (layout_of S3000 High) img slot ≡ some file
     → (name : List ℕ) → capitals (layout_of S3000 High) name ≡ file.name
     → (view_of (layout_of S3000 High) (bytes (call_of img (remove name file.type)).state)).entry slot ≡ record { area = replicate 16 0; type = 0; size = 0; start = 0; identity = 3072 }
 s3000_remove = second_proved.remove_leaves S3000 High
 
 -- On S900 and S1000 disks no call changes an identity's bytes.
-pub identity_kept : (k : Kind) (d : Density) (f n : ℕ) (img : List ℕ) → check_of img ≡ Accepted k d f n → (layout_of k d).second ≡ false → ((j : ℕ) → bytes img j < 256)
+pub identity_kept : (k : Kind) (d : Density) (f n : ℕ) (img : List ℕ) → check_of img ≡ accepting k d f n → (layout_of k d).second ≡ false → ((j : ℕ) → bytes img j < 256)
     → (c : Call) (s i : ℕ) → s < (layout_of k d).slots → Within (slot_offset (layout_of k d) s + 22) 2 i → bytes (call_of img c).state i ≡ bytes img i
 identity_kept k d f n img accept own small c s i = outside.identity_kept k d f n img accept c i own small s
 
@@ -566,10 +561,10 @@ pub s3000_slots : (files : Files) (slot : ℕ) → 512 ≤ slot → file_at (lay
 unfolding file_at
 s3000_slots files slot above = rw (le-ltb slot 512 above) refl
 
-pub s3000_past : (f n : ℕ) (img : List ℕ) → check_of img ≡ Accepted S3000 High f n → (slot : ℕ) → 512 ≤ slot → (call_of img (list slot)).answer ≡ refused 10 0
+pub s3000_past : (f n : ℕ) (img : List ℕ) → check_of img ≡ accepting S3000 High f n → (slot : ℕ) → 512 ≤ slot → (call_of img (list slot)).answer ≡ refused 10 0
 s3000_past f n img accept slot above = second_proved.list_past S3000 High f n img accept slot above
 
-pub s3000_report : (img report : List ℕ) → known_of img ≡ Disk S3000 High → length report < 512 → salvage_of img report ≡ came (refused 21 0) report img
+pub s3000_report : (img report : List ℕ) → known_of img ≡ known_as S3000 High → length report < 512 → salvage_of img report ≡ came (refused 21 0) report img
 s3000_report img report known = salvaged.salvage_short S3000 High img known report
 
 -- The first 17,408 bytes and the length decide the check of every kind.
@@ -579,50 +574,50 @@ head_decides = head.head_decides
 -- ---- Request six: a program may share its sample's name
 
 -- Names differ within one type alone: 5 is given by `refused_exactly`, for a slot whose name and type stand in a lower used one (`Breaks` at `single`).
-pub one_of_a_type : (k : Kind) (d : Density) (f n : ℕ) (img : List ℕ) → check_of img ≡ Accepted k d f n → Apart (files_in (layout_of k d) img)
+pub one_of_a_type : (k : Kind) (d : Density) (f n : ℕ) (img : List ℕ) → check_of img ≡ accepting k d f n → Apart (files_in (layout_of k d) img)
 one_of_a_type = spelling.one_of_a_type
 
 -- The record is by name and type: of such files two of one name and two types are both found, each by its own, in two slots.
 pub both_found : (l : Layout) (files : Files) → Apart files → (name : List ℕ) (s t : ℕ) (a b : File) → s < l.slots → t < l.slots → files s ≡ some a → files t ≡ some b → capitals l name ≡ a.name
-    → capitals l name ≡ b.name → (a.type ≡ b.type → ⊥) → (slot_of l files name a.type ≡ At s) × (slot_of l files name b.type ≡ At t) × (s ≡ t → ⊥)
+    → capitals l name ≡ b.name → (a.type ≡ b.type → ⊥) → (slot_of l files name a.type ≡ Some s) × (slot_of l files name b.type ≡ Some t) × (s ≡ t → ⊥)
 both_found = known.both_found
 
 -- Find gives a slot exactly where it holds a file of that name and type, answers 10 exactly where none does, and 11 exactly where name or type is illegal.
-pub found_exactly : (k : Kind) (d : Density) (f n : ℕ) (img : List ℕ) → check_of img ≡ Accepted k d f n → (name : List ℕ) (type slot : ℕ)
+pub found_exactly : (k : Kind) (d : Density) (f n : ℕ) (img : List ℕ) → check_of img ≡ accepting k d f n → (name : List ℕ) (type slot : ℕ)
     → (call_of img (find name type) ≡ came (valued slot) [] img) ↔ Holds (layout_of k d) (files_in (layout_of k d) img) name type slot
 found_exactly = types.found_exactly
 
-pub missing_exactly : (k : Kind) (d : Density) (f n : ℕ) (img : List ℕ) → check_of img ≡ Accepted k d f n → (name : List ℕ) (type : ℕ)
+pub missing_exactly : (k : Kind) (d : Density) (f n : ℕ) (img : List ℕ) → check_of img ≡ accepting k d f n → (name : List ℕ) (type : ℕ)
     → (call_of img (find name type) ≡ came (refused 10 0) [] img)
     ↔ ((is_legal (layout_of k d) name type ≡ true) × ((s : ℕ) → Holds (layout_of k d) (files_in (layout_of k d) img) name type s → ⊥))
 missing_exactly = types.missing_exactly
 
-pub illegal_exactly : (k : Kind) (d : Density) (f n : ℕ) (img : List ℕ) → check_of img ≡ Accepted k d f n → (name : List ℕ) (type : ℕ)
+pub illegal_exactly : (k : Kind) (d : Density) (f n : ℕ) (img : List ℕ) → check_of img ≡ accepting k d f n → (name : List ℕ) (type : ℕ)
     → (call_of img (find name type) ≡ came (refused 11 0) [] img) ↔ (is_legal (layout_of k d) name type ≡ false)
 illegal_exactly = types.illegal_exactly
 
 -- Remove is refused as find is, and else empties the slot that find gives.
-pub remove_refused : (k : Kind) (d : Density) (f n : ℕ) (img : List ℕ) → check_of img ≡ Accepted k d f n → (name : List ℕ) (type : ℕ) (r : Refusal)
+pub remove_refused : (k : Kind) (d : Density) (f n : ℕ) (img : List ℕ) → check_of img ≡ accepting k d f n → (name : List ℕ) (type : ℕ) (r : Refusal)
     → call_of img (find name type) ≡ came (refused_by r) [] img → call_of img (remove name type) ≡ came (refused_by r) [] img
 remove_refused = types.refused_as_found
 
-pub remove_found : (k : Kind) (d : Density) (f n : ℕ) (img : List ℕ) → check_of img ≡ Accepted k d f n → (name : List ℕ) (type slot : ℕ)
+pub remove_found : (k : Kind) (d : Density) (f n : ℕ) (img : List ℕ) → check_of img ≡ accepting k d f n → (name : List ℕ) (type slot : ℕ)
     → call_of img (find name type) ≡ came (valued slot) [] img → call_of img (remove name type) ≡ came done [] (remove_image (layout_of k d) img slot)
 remove_found = types.removed_as_found
 
 -- Put answers 12 at a slot exactly where it holds a file of that name and type.
-pub taken_exactly : (k : Kind) (d : Density) (f n : ℕ) (img : List ℕ) → check_of img ≡ Accepted k d f n → (name : List ℕ) (type : ℕ) (content : List ℕ) → (length content ≡ 0 → ⊥) → (slot : ℕ)
+pub taken_exactly : (k : Kind) (d : Density) (f n : ℕ) (img : List ℕ) → check_of img ≡ accepting k d f n → (name : List ℕ) (type : ℕ) (content : List ℕ) → (length content ≡ 0 → ⊥) → (slot : ℕ)
     → ((call_of img (put name type content)).answer ≡ refused 12 slot) ↔ Holds (layout_of k d) (files_in (layout_of k d) img) name type slot
 taken_exactly = types.taken_exactly
 
 -- A file's name may be put in a second type: the put is granted another slot, and on the image that it leaves both files are found, each by its own type.
-pub second_type : (k : Kind) (d : Density) (f n : ℕ) (img : List ℕ) → check_of img ≡ Accepted k d f n → (slot : ℕ) (file : File) → files_in (layout_of k d) img slot ≡ some file
+pub second_type : (k : Kind) (d : Density) (f n : ℕ) (img : List ℕ) → check_of img ≡ accepting k d f n → (slot : ℕ) (file : File) → files_in (layout_of k d) img slot ≡ some file
     → (type : ℕ) → legal_type (layout_of k d) type ≡ true → ((s : ℕ) → Holds (layout_of k d) (files_in (layout_of k d) img) file.name type s → ⊥) → (content : List ℕ) → (length content ≡ 0 → ⊥)
     → blocks_for (length content) ≤ n → (s : ℕ) → s < (layout_of k d).slots → files_in (layout_of k d) img s ≡ none → FoundApart img slot file type content
 second_type = types.second_type
 
 -- A remove leaves every file of another type, whatever its name.
-pub other_type_stays : (k : Kind) (d : Density) (f n : ℕ) (img : List ℕ) → check_of img ≡ Accepted k d f n → (s : ℕ) (file : File) → files_in (layout_of k d) img s ≡ some file
+pub other_type_stays : (k : Kind) (d : Density) (f n : ℕ) (img : List ℕ) → check_of img ≡ accepting k d f n → (s : ℕ) (file : File) → files_in (layout_of k d) img s ≡ some file
     → (name : List ℕ) (type : ℕ) → (type ≡ file.type → ⊥) → files_in (layout_of k d) (call_of img (remove name type)).state s ≡ some file
 other_type_stays = types.other_type_stays
 

@@ -2,154 +2,122 @@
 // salvage run's too.
 #![tactic(auto)]
 
-ghost use Rattle.std.specs.Prelude.{◌≡◌, ◌≤◌, length};
+ghost use Rattle.std.specs.Prelude.{◌≡◌, ◌≤◌, length, Ok, Err, None};
 ghost use Rattle.laws.specs.Reader.{bytes};
 ghost use Rattle.laws.specs.Scan.{lowest};
 ghost use Rattle.laws.specs.Refusals.{refusal_at};
-ghost use Rattle.laws.specs.declared.Lowest.TheVariants.{Nowhere};
-ghost use Rattle.laws.specs.declared.Counted.TheVariants.{Done};
 ghost use Rattle.layout.specs.Layouts.{layout_of, head_length};
 ghost use Rattle.view.specs.Rules.{bad_system, malformed};
 ghost use Rattle.image.specs.Image.{view_of};
 ghost use Rattle.slots.specs.Forms.{or_used};
-ghost use Rattle.rules.specs.declared.Known.TheVariants.{Disk, Unknown};
-ghost use Rattle.rules.specs.Check.{or_unknown, second_kind, known_kind, known_start, used_count, check_as, check_of, check_start};
+ghost use Rattle.rules.specs.Check.{or_unknown, second_kind, known_kind, known_start, used_count, check_as, check_of, check_start, known_as};
+
+use laws::Refusal;
+use layout::{Density, Kind};
+use rules::{Accepted, Format};
 
 // Refusals 5 to 9 of an image that 3 and 4 don't refuse and whose used slots are counted, else what the check tells of it.
 fn check_names(
     head: &[u8],
     layout: layout::Layout,
-    kind: layout::Kind,
-    density: layout::Density,
+    kind: Kind,
+    density: Density,
     files: usize,
-) -> rules::Checked
-    requires { (head_length ≤ length head.now) × (layout ≡ layout_of kind density) × (lowest (bad_system layout (view_of layout (bytes head.now))) 0 layout.system ≡ Nowhere) × (Done files ≡ or_used (lowest (malformed layout (view_of layout (bytes head.now))) 0 layout.slots) (used_count layout (view_of layout (bytes head.now)))) }
+) -> Result<Accepted, Refusal>
+    requires { (head_length ≤ length head.now) × (layout ≡ layout_of kind density) × (lowest (bad_system layout (view_of layout (bytes head.now))) 0 layout.system ≡ None) × (Ok files ≡ or_used (lowest (malformed layout (view_of layout (bytes head.now))) 0 layout.slots) (used_count layout (view_of layout (bytes head.now)))) }
     ensures { result ≡ check_as kind density (bytes head.now) }
 {
-    let repeated = slots::name_fault(head, layout);
-    if let laws::Lowest::At(slot) = repeated {
-        return rules::Checked::Refused(laws::Refusal {
-            number: 5,
-            place: slot,
-        });
+    if let Some(slot) = slots::name_fault(head, layout) {
+        return Err(Refusal::RepeatedName(slot));
     }
-    let chained = chains::chain_rules(head, layout);
-    match chained {
-        laws::Counted::Done(free) => rules::Checked::Accepted {
-            kind,
-            density,
-            files,
-            free,
-        },
-        laws::Counted::Refused(refusal) => rules::Checked::Refused(refusal),
-    }
+    let free = chains::chain_rules(head, layout)?;
+    Ok(Accepted {
+        kind,
+        density,
+        files,
+        free,
+    })
 }
 
 // The check of an image of a known kind and density: 3, then 4, then the rest.
-fn check_as(head: &[u8], kind: layout::Kind, density: layout::Density) -> rules::Checked
+fn check_as(head: &[u8], kind: Kind, density: Density) -> Result<Accepted, Refusal>
     requires { head_length ≤ length head.now }
     ensures { result ≡ check_as kind density (bytes head.now) }
 {
     let layout = layout::layout_of(kind, density);
-    let system = chains::system_fault(head, layout);
-    if let laws::Lowest::At(block) = system {
-        return rules::Checked::Refused(laws::Refusal {
-            number: 3,
-            place: block,
-        });
+    if let Some(block) = chains::system_fault(head, layout) {
+        return Err(Refusal::SystemBlock(block));
     }
-    let formed = slots::count_formed(head, layout);
-    match formed {
-        laws::Counted::Done(files) => check_names(head, layout, kind, density, files),
-        laws::Counted::Refused(refusal) => rules::Checked::Refused(refusal),
-    }
-}
-
-// Refusal 2.
-fn no_kind() -> rules::Known
-    ensures { result ≡ Unknown (refusal_at 2 0) }
-{
-    rules::Known::Unknown(laws::Refusal {
-        number: 2,
-        place: 0,
-    })
+    let files = slots::count_formed(head, layout)?;
+    check_names(head, layout, kind, density, files)
 }
 
 // The kind of an image whose first directory is passed over: 2 at low density.
-fn second_kind(density: layout::Density) -> rules::Known
-    ensures { result ≡ or_unknown (second_kind density) 2 (λ k. Disk k density) }
+fn second_kind(density: Density) -> Result<Format, Refusal>
+    ensures { result ≡ or_unknown (second_kind density) 2 (λ k. known_as k density) }
 {
     match density {
-        layout::Density::Low => no_kind(),
-        layout::Density::High => rules::Known::Disk {
-            kind: layout::Kind::S3000,
+        Density::Low => Err(Refusal::UnknownKind),
+        Density::High => Ok(Format {
+            kind: Kind::S3000,
             density,
-        },
+        }),
     }
 }
 
 // The kind of an image of a known density: slot 0's type tells, then the slots' identities; 2 if they are of none.
-fn known_kind(head: &[u8], density: layout::Density) -> rules::Known
+fn known_kind(head: &[u8], density: Density) -> Result<Format, Refusal>
     requires { head_length ≤ length head.now }
     ensures { result ≡ known_kind density (bytes head.now) }
 {
     if slots::is_passed_over(head) {
         return second_kind(density);
     }
-    let s900 = layout::Kind::S900;
+    let s900 = Kind::S900;
     if slots::has_identity(head, layout::layout_of(s900, density)) {
-        return rules::Known::Disk {
+        return Ok(Format {
             kind: s900,
             density,
-        };
+        });
     }
-    let s1000 = layout::Kind::S1000;
+    let s1000 = Kind::S1000;
     if slots::has_identity(head, layout::layout_of(s1000, density)) {
-        return rules::Known::Disk {
+        return Ok(Format {
             kind: s1000,
             density,
-        };
+        });
     }
-    no_kind()
+    Err(Refusal::UnknownKind)
 }
 
 // What is known of an image by its length, 1, and its directory, 2. The first 17,408 bytes are at hand, or all.
-pub fn known(head: &[u8], length: usize) -> rules::Known
+pub fn known(head: &[u8], length: usize) -> Result<Format, Refusal>
     ensures { result ≡ known_start head.now length }
 {
     if head.len() < 17408 {
-        return rules::Known::Unknown(laws::Refusal {
-            number: 1,
-            place: 0,
-        });
+        return Err(Refusal::WrongLength);
     }
-    let low = layout::Density::Low;
+    let low = Density::Low;
     if length == layout::image_length(low) {
         return known_kind(head, low);
     }
-    let high = layout::Density::High;
+    let high = Density::High;
     if length == layout::image_length(high) {
         return known_kind(head, high);
     }
-    rules::Known::Unknown(laws::Refusal {
-        number: 1,
-        place: 0,
-    })
+    Err(Refusal::WrongLength)
 }
 
 // The check of an image of which the first 17,408 bytes are at hand, or all, and its length.
-pub fn check_head(head: &[u8], length: usize) -> rules::Checked
+pub fn check_head(head: &[u8], length: usize) -> Result<Accepted, Refusal>
     ensures { result ≡ check_start head.now length }
 {
-    let disk = known(head, length);
-    match disk {
-        rules::Known::Disk { kind, density } => check_as(head, kind, density),
-        rules::Known::Unknown(refusal) => rules::Checked::Refused(refusal),
-    }
+    let Format { kind, density } = known(head, length)?;
+    check_as(head, kind, density)
 }
 
 // The check of an image.
-pub fn check(image: &[u8]) -> rules::Checked
+pub fn check(image: &[u8]) -> Result<Accepted, Refusal>
     ensures { result ≡ check_of image.now }
 {
     check_head(image, image.len())

@@ -1,13 +1,13 @@
 // The tables of the headers of sample and program files (document 01, "The files"), and the lowest place where a header breaks its table.
 #![tactic(auto)]
 
-ghost use Rattle.std.specs.Prelude.{◌≡◌, ◌-◌, ◌≤◌, ◌<◌, take, drop};
+ghost use Rattle.std.specs.Prelude.{◌≡◌, ◌<◌};
 ghost use Rattle.rows.specs.Rows.{rows_fault};
-ghost use Rattle.headers.specs.Tables.{rows_of, part_of};
+ghost use Rattle.headers.specs.Tables.{rows_of};
 
 use rows::Row;
 
-#[derive(Clone, Copy)]
+#[derive(Debug, Clone, Copy, PartialEq, Eq)]
 pub enum Table {
     Sample900,
     Sample1000,
@@ -15,9 +15,10 @@ pub enum Table {
     Keygroup,
 }
 
-// The rows of all tables, one table after another, offsets from 0. What the paper gives no range for is carried and has no row.
-const ROWS: [Row; 131] = [
-    // S900 sample (section 3): rows 0 to 7.
+// The rows of each table, offsets from 0. What the paper gives no range for is carried and has no row.
+
+// S900 sample (section 3).
+const SAMPLE900: [Row; 8] = [
     Row::Ascii(0, 10), // filename
     Row::Zeros(10, 6), // 0
     Row::Zeros(24, 2), // 0
@@ -26,7 +27,10 @@ const ROWS: [Row; 131] = [
     Row::AtMost(28, 16), // end marker, at most N at 16
     Row::AtMost(32, 28), // start marker, at most the end at 28
     Row::AtMost(36, 28), // loop length, at most the end at 28
-    // S1000 sample (section 5): rows 8 to 17.
+];
+
+// S1000 sample (section 5).
+const SAMPLE1000: [Row; 10] = [
     Row::Only(0, 3), // 3
     Row::From(2, 0, 127), // MIDI root note
     Row::Name(3, 12), // filename
@@ -37,7 +41,10 @@ const ROWS: [Row; 131] = [
     Row::Within(21, 50), // semi tune
     Row::AtMost(30, 34), // start marker, at most the end at 34
     Row::AtMost(34, 26), // end marker, at most N at 26
-    // S1000 program (section 6): rows 18 to 63.
+];
+
+// S1000 program (section 6).
+const PROGRAM: [Row; 46] = [
     Row::Only(0, 1), // program ID
     Row::Word(1, 150), // first keygroup address
     Row::Name(3, 12), // program name
@@ -84,7 +91,10 @@ const ROWS: [Row; 131] = [
     Row::Within(69, 50), // key>lfo delay
     Row::From(70, 0, 2), // voice output scale
     Row::From(71, 0, 1), // stereo output scale
-    // S1000 keygroup (section 6): rows 64 to 130.
+];
+
+// S1000 keygroup (section 6).
+const KEYGROUP: [Row; 67] = [
     Row::Only(0, 2), // keygroup ID
     Row::Past(1, 150), // next keygroup address
     Row::From(3, 24, 127), // low key
@@ -154,58 +164,29 @@ const ROWS: [Row; 131] = [
     Row::Within(148, 50), // vel>volume offset
 ];
 
-// The rows of a table: from the first on, below the end.
-#[derive(Clone, Copy)]
-struct Part {
-    first: usize,
-    end: usize,
-}
-
-fn part_of(table: Table) -> Part
-    ensures { result ≡ part_of table }
+#[tactic(auto, unfolding(crate::specs::Tables::rows_of))]
+fn rows_of(table: Table) -> &'static [Row]
+    ensures { result.now ≡ rows_of table }
 {
     match table {
-        Table::Sample900 => Part { first: 0, end: 8 },
-        Table::Sample1000 => Part { first: 8, end: 18 },
-        Table::Program => Part { first: 18, end: 64 },
-        Table::Keygroup => Part {
-            first: 64,
-            end: 131,
-        },
+        Table::Sample900 => &SAMPLE900,
+        Table::Sample1000 => &SAMPLE1000,
+        Table::Program => &PROGRAM,
+        Table::Keygroup => &KEYGROUP,
     }
-}
-
-// The lowest place where a header breaks one of the rows from the first on, below the end: one loop for all tables, lent their rows by value.
-fn rows_fault(
-    header: &[u8],
-    base: usize,
-    rows: [Row; 131],
-    first: usize,
-    end: usize,
-) -> laws::Lowest
-    requires { (base < 4294967296) × (first ≤ end) × (end ≤ 131) }
-    ensures { result ≡ rows_fault header.now base (take (end - first) (drop first rows)) }
-{
-    let mut i = first;
-    while i < end {
-        let row = rows[i];
-        let fault = rows::row_fault(header, base, row);
-        if let laws::Lowest::At(place) = fault {
-            return laws::Lowest::At(place);
-        }
-        i += 1;
-    }
-    laws::Lowest::Nowhere
 }
 
 // The lowest place, an offset of the file, where a header that starts at offset `base` breaks its table. The unpackers and packers of samples
 // call it at 0, the check of a program at 150 k for part k.
-pub fn fault(header: &[u8], base: usize, table: Table) -> laws::Lowest
+pub fn fault(header: &[u8], base: usize, table: Table) -> Option<usize>
     requires { base < 4294967296 }
     ensures { result ≡ rows_fault header.now base (rows_of table) }
 {
-    let part = part_of(table);
-    let first = part.first;
-    let end = part.end;
-    rows_fault(header, base, ROWS, first, end)
+    for &row in rows_of(table) {
+        let fault = rows::row_fault(header, base, row);
+        if fault.is_some() {
+            return fault;
+        }
+    }
+    None
 }

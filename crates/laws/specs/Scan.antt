@@ -1,7 +1,5 @@
 -- Searches, counts, lists, sums and tests over a range of numbers, each one fold over it. Assumes nothing.
-use Rattle.std.specs.Prelude.{Bool, true, false, List, [], ◌∷◌, ℕ, zero, suc, ◌+◌}
-use Rattle.laws.specs.declared.Lowest.{Lowest}
-use Rattle.laws.specs.declared.Lowest.TheVariants.{At, Nowhere}
+use Rattle.std.specs.Prelude.{Bool, true, false, List, [], ◌∷◌, ℕ, zero, suc, ◌+◌, Some, None, Option}
 use Rattle.laws.specs.Truth.{pick, both}
 
 -- step at each of the n numbers from i on, the last one first
@@ -9,14 +7,18 @@ unfoldable pub over : {A : Type 0} → (ℕ → A → A) → A → ℕ → ℕ �
 over step end i zero = end
 over step end i (suc n) = step i (over step end (suc i) n)
 
+-- What a search finds: the lowest place that passes a test, or none.
+abbrev pub Lowest : Type 0
+Lowest = Option ℕ
+
 abbrev pub is_at : Lowest → Bool
-is_at (At k) = true
-is_at Nowhere = false
+is_at (Some k) = true
+is_at None = false
 
 -- the lowest of the n numbers from i on that passes the test
 unfoldable pub lowest : (ℕ → Bool) → ℕ → ℕ → Lowest
 unfolding over
-lowest f i n = over (λ k rest. pick (f k) (At k) rest) Nowhere i n
+lowest f i n = over (λ k rest. pick (f k) (Some k) rest) None i n
 
 -- how many of them pass
 unfoldable pub count : (ℕ → Bool) → ℕ → ℕ → ℕ

@@ -5,14 +5,14 @@ ghost use Rattle.std.specs.Prelude.{◌≡◌};
 ghost use Rattle.layout.specs.Layouts.{layout_of, s900, s1000, s3000, blocks_of, first_data_of, length_of};
 
 // The sampler whose disk it is.
-#[derive(Clone, Copy)]
+#[derive(Clone, Copy, Debug, PartialEq, Eq)]
 pub enum Kind {
     S900,
     S1000,
     S3000,
 }
 
-#[derive(Clone, Copy)]
+#[derive(Clone, Copy, Debug, PartialEq, Eq)]
 pub enum Density {
     Low,
     High,
@@ -20,7 +20,7 @@ pub enum Density {
 
 // What a kind and a density fix (document 01, "The disk"). Every function and every proof above takes these from a
 // layout; only `layout_of` names them.
-#[derive(Clone, Copy)]
+#[derive(Clone, Copy, Debug, PartialEq, Eq)]
 pub struct Layout {
     // blocks of 1,024 bytes on the image, and the first that holds a file's bytes
     pub blocks: usize,
@@ -82,8 +82,8 @@ fn s900_layout(blocks: usize, first: usize) -> Layout
     ensures { result ≡ s900 blocks first }
 {
     Layout {
-        blocks: blocks,
-        first: first,
+        blocks,
+        first,
         slots: 64,
         directory: 0,
         second: false,
@@ -106,8 +106,8 @@ fn s1000_layout(blocks: usize, first: usize) -> Layout
     ensures { result ≡ s1000 blocks first }
 {
     Layout {
-        blocks: blocks,
-        first: first,
+        blocks,
+        first,
         slots: 64,
         directory: 0,
         second: false,
@@ -130,25 +130,16 @@ fn s1000_layout(blocks: usize, first: usize) -> Layout
 fn s3000_layout(blocks: usize) -> Layout
     ensures { result ≡ s3000 blocks }
 {
-    let like = s1000_layout(blocks, 17);
     Layout {
-        blocks: like.blocks,
-        first: like.first,
         slots: 512,
         directory: 5120,
         second: true,
-        mark: like.mark,
-        system: like.system,
-        reserved: like.reserved,
-        letters: like.letters,
-        low: like.low,
-        high: like.high,
-        akaii: like.akaii,
         pad: 0,
         last: 2,
         least: 193,
         most: 218,
         identity: 3072,
+        ..s1000_layout(blocks, 17)
     }
 }
 

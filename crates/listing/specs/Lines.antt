@@ -1,6 +1,6 @@
 -- The listing where only an image's head and its length are at hand, and that it is the image's.
 -- The check reads no more than these, and a slot of an accepted image lies in the head. Assumes nothing.
-use Rattle.std.specs.Prelude.{◌≡◌, Bool, List, [], ◌++◌, ℕ, zero, suc, ◌+◌, ◌-◌, ◌≤◌, ◌<◌, ltb, drop}
+use Rattle.std.specs.Prelude.{◌≡◌, Bool, List, [], ◌++◌, ℕ, zero, suc, ◌+◌, ◌-◌, ◌≤◌, ◌<◌, ltb, drop, Ok, Err}
 use Rattle.std.proofs.Math.Path.{refl, ap}
 use Rattle.std.proofs.Common.{sym, ◌∙◌, append-nil, arith, ltb-true, ltb-false, lt-ltb, le-ltb}
 use Rattle.std.proofs.Math.Bool.{true, false}
@@ -25,9 +25,7 @@ use Rattle.names.specs.NameLaws.{length-name}
 use Rattle.view.specs.Disk.{used}
 use Rattle.image.specs.Image.{entry_at, view_of}
 use Rattle.record.specs.Record.{Answer, entry, refused, refused_by}
-use Rattle.rules.specs.declared.Checked.{Checked}
-use Rattle.rules.specs.declared.Checked.TheVariants.{Accepted, Refused}
-use Rattle.rules.specs.Check.{check_start, answer_of}
+use Rattle.rules.specs.Check.{check_start, answer_of, Checked, accepting}
 use Rattle.disk.specs.Lemmas.Steps.{start_short, start_unknown, made_right, directory_held}
 use Rattle.calls.specs.Lemmas.Listing.{lent-area}
 use Rattle.listing.specs.Listing.{ascii, check_text, slot_line, slot_lines, end_line, listing_of}
@@ -41,8 +39,8 @@ slot_answer l b s =
 
 -- The same by the check's answer.
 abbrev pub slot_by : Checked → (ℕ → ℕ) → ℕ → Answer
-slot_by (Accepted k d files free) b s = pick (ltb s (layout_of k d).slots) (slot_answer (layout_of k d) b s) (refused 10 0)
-slot_by (Refused r) b s = refused_by r
+slot_by (Ok disk) b s = pick (ltb s (layout_of disk.kind disk.density).slots) (slot_answer (layout_of disk.kind disk.density) b s) (refused 10 0)
+slot_by (Err r) b s = refused_by r
 
 unfoldable pub lines_of : List ℕ → ℕ → List ℕ
 unfolding listing_of check_start slot_answer
@@ -64,10 +62,10 @@ slots_past f n (suc m) h p = go (ℕ_discrete n (suc m)) (slots_past f n m h)
     go (yes e) ih = rw e refl
     go (no e) ih = rw (h m (omega arith), ih (omega arith)) (append-nil (slot_lines f n))
 
-slots_there : (k : Kind) (d : Density) (f n : ℕ) (b : ℕ → ℕ) → slot_lines (slot_by (Accepted k d f n) b) 512 ≡ slot_lines (slot_answer (layout_of k d) b) (layout_of k d).slots
+slots_there : (k : Kind) (d : Density) (f n : ℕ) (b : ℕ → ℕ) → slot_lines (slot_by (accepting k d f n) b) 512 ≡ slot_lines (slot_answer (layout_of k d) b) (layout_of k d).slots
 slots_there k d f n b =
     let l = layout_of k d in
-    let asked = slot_by (Accepted k d f n) b in
+    let asked = slot_by (accepting k d f n) b in
     slots_past asked l.slots 512 (λ s h. rw (le-ltb s l.slots h) refl) (layout_right k d).slots_few
     ∙ slots_cong asked (slot_answer l b) l.slots (λ s h. rw (lt-ltb s l.slots h) refl)
 
@@ -75,12 +73,12 @@ slots_there k d f n b =
 
 -- by the check's answer
 module _ (head : List ℕ) (size : ℕ) {c : Checked} (checked : c ≡ check_start head size) where
-  pub lines_refused : {r : Refusal} → c ≡ Refused r → lines_of head size ≡ check_text (answer_of c) ++ ascii "\n" ++ []
+  pub lines_refused : {r : Refusal} → c ≡ Err r → lines_of head size ≡ check_text (answer_of c) ++ ascii "\n" ++ []
   unfolding lines_of
   lines_refused e = rw (← checked, e) refl
 
   -- l being the layout that the code makes of it
-  module _ {k : Kind} {d : Density} {f n : ℕ} {l : Layout} (yes : c ≡ Accepted k d f n) (made : l ≡ layout_of k d) where
+  module _ {k : Kind} {d : Density} {f n : ℕ} {l : Layout} (yes : c ≡ accepting k d f n) (made : l ≡ layout_of k d) where
     pub lines_accepted : lines_of head size ≡ check_text (answer_of c) ++ ascii "\n" ++ (slot_lines (slot_answer l (bytes head)) l.slots ++ end_line f)
     unfolding lines_of
     lines_accepted = rw (← checked, yes, made, slots_there k d f n (bytes head)) refl
@@ -88,7 +86,7 @@ module _ (head : List ℕ) (size : ℕ) {c : Checked} (checked : c ≡ check_sta
     -- a shorter head is refused
     long_by : (t : Bool) → ltb (length head) head_length ≡ t → head_length ≤ length head
     long_by true e =
-        let short : Refused (refusal_at 1 0) ≡ check_start head size = start_unknown head size (start_short head size (ltb-true (length head) head_length e)) refl in
+        let short : Err (refusal_at 1 0) ≡ check_start head size = start_unknown head size (start_short head size (ltb-true (length head) head_length e)) refl in
         absurd (let z : ◌≡◌ {A = ℕ} 0 1 = cc in omega arith)
     long_by false e = ltb-false (length head) head_length e
 

@@ -10,6 +10,7 @@ use Rattle.laws.specs.Truth.{pick}
 use Rattle.layout.specs.declared.Kind.TheVariants.{S1000, S3000}
 use Rattle.layout.specs.declared.Density.TheVariants.{High}
 use Rattle.record.specs.Record.{Answer, accepted, entry, refused}
+use Rattle.laws.specs.Refusals.{number_of, place_of}
 
 -- A text's bytes.
 abbrev pub ascii : String → List ℕ
@@ -35,7 +36,7 @@ or_refused none refused given = given
 or_refused (some r) refused given = refused r
 
 abbrev pub refused_text : Refusal → List ℕ
-refused_text r = numbered "refused " r.number ++ numbered " at " r.place
+refused_text r = numbered "refused " (number_of r) ++ numbered " at " (place_of r)
 
 abbrev pub density_word : ℕ → List ℕ
 density_word density = pick (eqb density 0) (ascii " low") (ascii " high")

@@ -14,11 +14,13 @@ ghost use Rattle.listing.specs.Listing.{decimal, density_word, refused_text, che
 ghost use Rattle.listing.specs.Lines.{slot_answer, lines_of};
 ghost use Rattle.listing.specs.Puts.{Puts, Fills};
 
-use std::io::{Print, Read, Result};
+use laws::Refusal;
+use rules::Accepted;
+use std::io::{Print, Read};
 use std::rt::{Stdin, Stdout};
 
 // Reads until the buffer is full or the input ends, and says how many bytes came. Where a read fails, some of the buffer may be written.
-pub fn read_full(input: &mut Stdin, buffer: &mut [u8]) -> Result<usize>
+pub fn read_full(input: &mut Stdin, buffer: &mut [u8]) -> std::io::Result<usize>
     ensures ok { IfOk result (λ count. IsPrefixLen count buffer.new) }
     ensures err { OnErr result (length buffer.new ≡ length buffer.old) }
 {
@@ -34,7 +36,7 @@ pub fn read_full(input: &mut Stdin, buffer: &mut [u8]) -> Result<usize>
 }
 
 // Reads up to 65,536 bytes more, and says how many came.
-fn skip_some(input: &mut Stdin) -> Result<usize>
+fn skip_some(input: &mut Stdin) -> std::io::Result<usize>
     ensures { IfOk result (λ count. count ≤ 65536) }
 {
     let mut space = [0u8; 65536];
@@ -42,7 +44,7 @@ fn skip_some(input: &mut Stdin) -> Result<usize>
 }
 
 // How many bytes are left on standard input, as far as 64 turns count: that is more than any image has.
-fn count_rest(input: &mut Stdin) -> Result<usize>
+fn count_rest(input: &mut Stdin) -> std::io::Result<usize>
     ensures { IfOk result (λ count. count ≤ 4194304) }
 {
     let mut total: usize = 0;
@@ -85,12 +87,12 @@ fn put_number(word: &[u8], number: usize, out: &mut [u8; 24576], at: usize) -> u
 }
 
 // A refusal, without its line's end.
-pub fn put_refused(refusal: laws::Refusal, out: &mut [u8; 24576], at: usize) -> usize
+pub fn put_refused(refusal: Refusal, out: &mut [u8; 24576], at: usize) -> usize
     requires { at ≤ 24576 }
     ensures { Puts 52 (refused_text refusal) at out.old out.new result }
 {
-    let next = put_number(b"refused ", refusal.number as usize, out, at);
-    put_number(b" at ", refusal.place, out, next)
+    let next = put_number(b"refused ", refusal.number() as usize, out, at);
+    put_number(b" at ", refusal.place(), out, next)
 }
 
 fn kind_number(kind: layout::Kind) -> usize
@@ -114,23 +116,18 @@ fn put_density(density: layout::Density, out: &mut [u8; 24576], at: usize) -> us
 }
 
 // The check's answer, without its line's end.
-pub fn put_checked(checked: rules::Checked, out: &mut [u8; 24576], at: usize) -> usize
+pub fn put_checked(checked: Result<Accepted, Refusal>, out: &mut [u8; 24576], at: usize) -> usize
     requires { at ≤ 24576 }
     ensures { Puts 79 (check_text (answer_of checked)) at out.old out.new result }
 {
     match checked {
-        rules::Checked::Accepted {
-            kind,
-            density,
-            files,
-            free,
-        } => {
-            let next = put_number(b"S", kind_number(kind), out, at);
-            let next = put_density(density, out, next);
-            let next = put_number(b" files ", files, out, next);
-            put_number(b" free ", free, out, next)
+        Ok(disk) => {
+            let next = put_number(b"S", kind_number(disk.kind), out, at);
+            let next = put_density(disk.density, out, next);
+            let next = put_number(b" files ", disk.files, out, next);
+            put_number(b" free ", disk.free, out, next)
         }
-        rules::Checked::Refused(refusal) => put_refused(refusal, out, at),
+        Err(refusal) => put_refused(refusal, out, at),
     }
 }
 
@@ -205,22 +202,17 @@ pub fn lines(head: &[u8], length: usize, out: &mut [u8; 24576]) -> usize
     let checked = disk::check_head(head, length);
     let next = put_checked(checked, out, 0);
     let next = put(b"\n", out, next);
-    let rules::Checked::Accepted {
-        kind,
-        density,
-        files,
-        free: _,
-    } = checked
+    let Ok(disk) = checked
     else {
         return next;
     };
-    let next = put_slots(head, layout::layout_of(kind, density), out, next);
-    let next = put_number(b"end ", files, out, next);
+    let next = put_slots(head, layout::layout_of(disk.kind, disk.density), out, next);
+    let next = put_number(b"end ", disk.files, out, next);
     put(b"\n", out, next)
 }
 
 // Lists the image on standard input: of its bytes the first 17,408 are kept, the rest is counted. A read or write that fails is an error.
-pub fn run(mut input: Stdin, output: Stdout) -> Result<()> {
+pub fn run(mut input: Stdin, output: Stdout) -> std::io::Result<()> {
     let mut head = [0u8; 17408];
     let kept = read_full(&mut input, &mut head)?;
     let rest = count_rest(&mut input)?;

@@ -1,6 +1,6 @@
 -- What a caller must fetch of an image: what the check reads, which lies in its first 17,408 bytes, for every answer but a page's bytes, and for those the
 -- file's own blocks. Entries and chains agree where directory and map do; a content is read from its chain's blocks alone. Assumes nothing.
-use Rattle.std.specs.Prelude.{◌≡◌, Bool, ℕ, ◌<◌, ltb, length, take}
+use Rattle.std.specs.Prelude.{◌≡◌, Bool, ℕ, ◌<◌, ltb, length, take, Ok, Err}
 use Rattle.std.proofs.Math.Path.{refl, ap}
 use Rattle.std.proofs.Common.{sym, ◌∙◌, arith, lt-ltb, ltb-false}
 use Rattle.std.proofs.Math.Bool.{true, false}
@@ -21,9 +21,7 @@ use Rattle.map.specs.Map.{map_at}
 use Rattle.view.specs.Disk.{File, used, entry_chain, chain_of, content_of}
 use Rattle.image.specs.Image.{view_of, files_in}
 use Rattle.record.specs.Record.{page, Outcome, file_at, paging}
-use Rattle.rules.specs.declared.Checked.{Checked}
-use Rattle.rules.specs.declared.Checked.TheVariants.{Accepted, Refused}
-use Rattle.rules.specs.Check.{check_of}
+use Rattle.rules.specs.Check.{check_of, Checked, accepting}
 use Rattle.calls.specs.Lemmas.Slots.{file_above, file_empty, file-used}
 use Rattle.calls.specs.Lemmas.Done.{page-done}
 use Rattle.locate.specs.Locate.{file_blocks, storing, blocks_of}
@@ -32,7 +30,7 @@ use Rattle.locate.specs.Enough.{SameRead, given, no_room, Alike, check_same, ent
 module _ (x y : List ℕ) (same : SameRead x y) where
   -- ---- accepted images
 
-  module _ {k : Kind} {d : Density} {f n : ℕ} (yes-x : check_of x ≡ Accepted k d f n) where
+  module _ {k : Kind} {d : Density} {f n : ℕ} (yes-x : check_of x ≡ accepting k d f n) where
     abbrev l : Layout
     l = layout_of k d
 
@@ -84,9 +82,9 @@ module _ (x y : List ℕ) (same : SameRead x y) where
   page_enough s room fits held offset out = go (check_of x) refl
     where
       go : (c : Checked) → check_of x ≡ c → Alike x y (page s offset out)
-      go (Refused r) e = refused_alike x y same e (page s offset out) (λ z q. refl)
-      go (Accepted k d f n) e =
-          let l = layout_of k d in
+      go (Err r) e = refused_alike x y same e (page s offset out) (λ z q. refl)
+      go (Ok disk) e =
+          let l = layout_of disk.kind disk.density in
           let a = page-done x refl e refl s offset out in
           let b = page-done y refl (check_same x y same ∙ e) refl s offset out in
           let all = given-all (file_blocks l x s) room (rw e at fits) in

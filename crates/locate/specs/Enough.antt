@@ -1,20 +1,16 @@
 -- What a caller must fetch of an image: what the check reads, which lies in its first 17,408 bytes, for every answer but a page's bytes, and for those the
 -- file's own blocks. Entries and chains agree where directory and map do; a content is read from its chain's blocks alone. Assumes nothing.
-use Rattle.std.specs.Prelude.{◌≡◌, Bool, not, ℕ, ◌-◌, ◌≤◌, ◌<◌, length, take}
+use Rattle.std.specs.Prelude.{◌≡◌, Bool, not, ℕ, ◌-◌, ◌≤◌, ◌<◌, length, take, Ok, Err}
 use Rattle.std.proofs.Math.Path.{refl, ap}
 use Rattle.std.proofs.Common.{sym, ◌∙◌, true≢false, inl, inr, arith, lt-ltb, le-ltb}
 use Rattle.std.proofs.Math.Bool.{true, false}
 use mathlib.Core.List.{List, [], ◌∷◌}
 use Rattle.std.proofs.Math.Decide.{dec_lt}
 use Rattle.laws.specs.declared.Refusal.{Refusal}
-use Rattle.laws.specs.declared.Counted.{Counted}
-use Rattle.laws.specs.declared.Counted.TheVariants.{Done}
-use Rattle.laws.specs.declared.Counted.TheVariants as counted
-use Rattle.laws.specs.Refusals.{refusal_at, Filled}
+use Rattle.laws.specs.Refusals.{refusal_at, Filled, Counted, number_of, place_of}
 use Rattle.laws.specs.Lemmas.Refusals.{refused-done}
 use Rattle.laws.specs.Lemmas.Truth.{false_if}
 use Rattle.laws.specs.Lemmas.Scan.{lowest_cong}
-use Rattle.laws.specs.declared.Lowest.{Lowest}
 use Rattle.laws.specs.Reader.{bytes}
 use Rattle.layout.specs.declared.Kind.{Kind}
 use Rattle.layout.specs.declared.Kind.TheVariants.{S900, S1000, S3000}
@@ -29,22 +25,19 @@ use Rattle.map.specs.Map.{map_at}
 use Rattle.map.specs.Lemmas.Chains.{length-chain, chain_cong, chain_data, chain_short}
 use Rattle.view.specs.Disk.{used, entry_chain, chain_of, files_of}
 use Rattle.image.specs.Image.{view_of, files_in, PassedOver, InUse, DiskRules}
-use Rattle.record.specs.Record.{Call, list, find, refused_by, Outcome, named, refuse_if, or_refuse, is_legal, slot_of, file_at, judge_name, listing}
+use Rattle.record.specs.Record.{Call, list, find, refused_by, Outcome, named, refuse_if, or_refuse, is_legal, slot_of, file_at, judge_name, listing, Judged}
 use Rattle.record.specs.Lemmas.Step.{list_output}
-use Rattle.record.specs.declared.Judged.{Judged}
-use Rattle.record.specs.declared.Judged.TheVariants.{Grant}
-use Rattle.rules.specs.declared.Checked.{Checked}
-use Rattle.rules.specs.declared.Checked.TheVariants.{Accepted, Refused}
-use Rattle.rules.specs.Check.{check_of, refusal_of, lent, came, unaccepted, call_of}
+use Rattle.rules.specs.Check.{check_of, lent, came, unaccepted, call_of, Checked, accepting}
 use Rattle.rules.specs.Accepted.{length_of_is}
-use Rattle.rules.proofs.Accepted.{accepted-rules}
+use Rattle.rules.proofs.Accepts.{accepted-rules}
 use Rattle.rules.specs.Head.{Read, read_head, head_agree, same_map, same-entry}
 use Rattle.rules.proofs.Head.{check_reads}
-use Rattle.calls.specs.Answers.{found_of, found_by}
+use Rattle.calls.specs.Answers.{found_of}
 use Rattle.calls.specs.Lemmas.Answers.{call_refused}
 use Rattle.calls.specs.Lemmas.Slots.{file_above, file_empty, file-used, file-length}
 use Rattle.calls.specs.Lemmas.Done.{list_done, find_done}
 use Rattle.locate.specs.Locate.{file_blocks, storing, blocks_by, blocks_of}
+use Rattle.laws.specs.Scan.{Lowest}
 
 -- y has x's length, and x's bytes wherever the check of x may look: slot 0's type in the first directory, the directory in use, the map.
 pub record SameRead (x y : List ℕ) : Type 0 where
@@ -76,8 +69,8 @@ first_enough x y own n e = record { size = n; type = e 16 (omega arith); read = 
 
 -- A count, 0 where a call was refused.
 abbrev pub count_in : Counted → ℕ
-count_in (Done count) = count
-count_in (counted.Refused r) = 0
+count_in (Ok count) = count
+count_in (Err r) = 0
 
 -- The blocks that a call for them gave.
 abbrev pub given : Filled ℕ → List ℕ
@@ -85,7 +78,7 @@ given f = take (count_in f.answer) f.output
 
 -- Refusal 21.
 abbrev pub no_room : Counted
-no_room = counted.Refused (refusal_at 21 0)
+no_room = Err (refusal_at 21 0)
 
 -- A call answers alike on both, and leaves the same output.
 pub record Alike (x y : List ℕ) (c : Call) : Type 0 where
@@ -98,14 +91,14 @@ module _ (x y : List ℕ) (same : SameRead x y) where
 
   -- ---- accepted images
 
-  module _ {k : Kind} {d : Density} {f n : ℕ} (yes-x : check_of x ≡ Accepted k d f n) where
+  module _ {k : Kind} {d : Density} {f n : ℕ} (yes-x : check_of x ≡ accepting k d f n) where
     abbrev l : Layout
     l = layout_of k d
 
     right : LayoutRight l
     right = layout_right k d
 
-    yes_y : check_of y ≡ Accepted k d f n
+    yes_y : check_of y ≡ accepting k d f n
     yes_y = check_same ∙ yes-x
 
     rules_x : DiskRules l x
@@ -153,7 +146,7 @@ module _ (x y : List ℕ) (same : SameRead x y) where
     judge_same : (name : List ℕ) (type : ℕ) → judge_name l (files_in l y) name type ≡ judge_name l (files_in l x) name type
     unfolding judge_name slot_of
     judge_same name type =
-        ap (λ (w : Lowest). refuse_if (not (is_legal l name type)) 11 (or_refuse 10 w (λ s. Grant s)))
+        ap (λ (w : Lowest). refuse_if (not (is_legal l name type)) 11 (or_refuse 10 w (λ s. Ok s)))
         (lowest_cong (λ s. named l name type (files_in l y s)) (λ s. named l name type (files_in l x s)) 0 l.slots
         (λ s p q. named_by name type s (omega arith) (used ((view_of l (bytes x)).entry s)) refl))
 
@@ -161,13 +154,12 @@ module _ (x y : List ℕ) (same : SameRead x y) where
 
 module _ (x y : List ℕ) (same : SameRead x y) where
   -- c being a call that a refused image answers with the check's refusal
-  pub refused_alike : {r : Refusal} → check_of x ≡ Refused r → (c : Call) → ((z : List ℕ) (q : Refusal) → unaccepted q z c ≡ came (refused_by q) (lent c) z) → Alike x y c
+  pub refused_alike : {r : Refusal} → check_of x ≡ Err r → (c : Call) → ((z : List ℕ) (q : Refusal) → unaccepted q z c ≡ came (refused_by q) (lent c) z) → Alike x y c
   refused_alike e c plain =
-      let a = sym (plain x _) ∙ call_refused x c refl e refl in
-      let b = sym (plain y _) ∙ call_refused y c refl (check_same x y same ∙ e) refl in
-      let t = check_same x y same in
+      let a = sym (plain x _) ∙ call_refused x c refl e in
+      let b = sym (plain y _) ∙ call_refused y c refl (check_same x y same ∙ e) in
       record {
-        answer = ap (λ (o : Outcome (List ℕ)). o.answer) (sym b) ∙ ap (λ (w : Checked). refused_by (refusal_of w)) t ∙ ap (λ (o : Outcome (List ℕ)). o.answer) a;
+        answer = ap (λ (o : Outcome (List ℕ)). o.answer) (sym b) ∙ ap (λ (o : Outcome (List ℕ)). o.answer) a;
         output = ap (λ (o : Outcome (List ℕ)). o.output) (sym b) ∙ ap (λ (o : Outcome (List ℕ)). o.output) a;
       }
 
@@ -176,9 +168,9 @@ module _ (x y : List ℕ) (same : SameRead x y) where
   list_enough s = go (check_of x) refl
     where
       go : (c : Checked) → check_of x ≡ c → Alike x y (list s)
-      go (Refused r) e = refused_alike e (list s) (λ z q. refl)
-      go (Accepted k d f n) e =
-          let l = layout_of k d in
+      go (Err r) e = refused_alike e (list s) (λ z q. refl)
+      go (Ok disk) e =
+          let l = layout_of disk.kind disk.density in
           let a = list_done x refl e refl s in
           let b = list_done y refl (check_same x y same ∙ e) refl s in
           record {
@@ -191,12 +183,12 @@ module _ (x y : List ℕ) (same : SameRead x y) where
   find_enough name type = go (check_of x) refl
     where
       go : (c : Checked) → check_of x ≡ c → Alike x y (find name type)
-      go (Refused r) e = refused_alike e (find name type) (λ z q. refl)
-      go (Accepted k d f n) e =
-          let a = find_done x refl e refl name type refl refl in
-          let b = find_done y refl (check_same x y same ∙ e) refl name type refl refl in
+      go (Err r) e = refused_alike e (find name type) (λ z q. refl)
+      go (Ok disk) e =
+          let a = find_done x refl e refl name type refl in
+          let b = find_done y refl (check_same x y same ∙ e) refl name type refl in
           record {
-            answer = ap (λ (o : Outcome (List ℕ)). o.answer) (sym b) ∙ ap (λ (j : Judged). found_of (found_by j)) (judge_same x y same e name type) ∙ ap (λ (o : Outcome (List ℕ)). o.answer) a;
+            answer = ap (λ (o : Outcome (List ℕ)). o.answer) (sym b) ∙ ap (λ (j : Judged). found_of j) (judge_same x y same e name type) ∙ ap (λ (o : Outcome (List ℕ)). o.answer) a;
             output = ap (λ (o : Outcome (List ℕ)). o.output) (sym b) ∙ ap (λ (o : Outcome (List ℕ)). o.output) a;
           }
 
@@ -206,14 +198,14 @@ module _ (x y : List ℕ) (same : SameRead x y) where
   blocks_enough s out = rw (check_same x y same) (go (check_of x) refl)
     where
       go : (c : Checked) → check_of x ≡ c → blocks_by c y s out ≡ blocks_by c x s out
-      go (Refused r) e = refl
-      go (Accepted k d f n) e =
-          let l = layout_of k d in
+      go (Err r) e = refl
+      go (Ok disk) e =
+          let l = layout_of disk.kind disk.density in
           ap (λ (bs : List ℕ). storing bs out) (blocks_by_is x y same e s (dec_lt s l.slots) (used ((view_of l (bytes x)).entry s)) refl)
 
 -- ---- how much room a file's blocks need
 
-blocks_few : (k : Kind) (d : Density) (f n : ℕ) (img : List ℕ) → check_of img ≡ Accepted k d f n → (s : ℕ) → Dec (s < (layout_of k d).slots)
+blocks_few : (k : Kind) (d : Density) (f n : ℕ) (img : List ℕ) → check_of img ≡ accepting k d f n → (s : ℕ) → Dec (s < (layout_of k d).slots)
     → (u : Bool) → used ((view_of (layout_of k d) (bytes img)).entry s) ≡ u → length (file_blocks (layout_of k d) img s) ≤ (layout_of k d).blocks - (layout_of k d).first
 unfolding file_blocks chain_of entry_chain
 blocks_few k d f n img e s (no h) u t = rw (le-ltb s (layout_of k d).slots (omega arith)) (omega arith)
@@ -227,16 +219,16 @@ blocks_few k d f n img e s (yes h) true t =
     (omega (arith, chain_short l (layout_right k d) m (links_for w.size) w.start c))
 
 -- A file has at most as many blocks as the data area.
-pub blocks_most : (k : Kind) (d : Density) (f n : ℕ) (img : List ℕ) → check_of img ≡ Accepted k d f n → (s : ℕ)
+pub blocks_most : (k : Kind) (d : Density) (f n : ℕ) (img : List ℕ) → check_of img ≡ accepting k d f n → (s : ℕ)
     → length (file_blocks (layout_of k d) img s) ≤ (layout_of k d).blocks - (layout_of k d).first
 blocks_most k d f n img e s = blocks_few k d f n img e s (dec_lt s (layout_of k d).slots) (used ((view_of (layout_of k d) (bytes img)).entry s)) refl
 
 stored : (blocks out : List ℕ) → length blocks ≤ length out → (storing blocks out).answer ≡ no_room → ⊥
-stored [] out h e = let z : refusal_at 10 0 ≡ refusal_at 21 0 = cc in let n : ◌≡◌ {A = ℕ} 10 21 = ap (λ (r : Refusal). r.number) z in absurd (omega arith)
+stored [] out h e = let z : refusal_at 10 0 ≡ refusal_at 21 0 = cc in let n : ◌≡◌ {A = ℕ} 10 21 = ap (λ (r : Refusal). (number_of r)) z in absurd (omega arith)
 stored (b ∷ bs) out h e = refused-done (sym (rw (le-ltb (length out) (length (b ∷ bs)) h) at e))
 
 -- So an output with that much room is never refused by 21.
-pub room_enough : (k : Kind) (d : Density) (f n : ℕ) (img : List ℕ) → check_of img ≡ Accepted k d f n → (s : ℕ) (out : List ℕ)
+pub room_enough : (k : Kind) (d : Density) (f n : ℕ) (img : List ℕ) → check_of img ≡ accepting k d f n → (s : ℕ) (out : List ℕ)
     → (layout_of k d).blocks - (layout_of k d).first ≤ length out → (blocks_of img s out).answer ≡ no_room → ⊥
 unfolding blocks_of
 room_enough k d f n img e s out h r = stored (file_blocks (layout_of k d) img s) out (omega (arith, blocks_most k d f n img e s)) (rw e at r)

@@ -9,6 +9,9 @@ ghost use Rattle.layout.specs.Right.{LayoutRight};
 ghost use Rattle.image.specs.Image.{DiskRules};
 ghost use Rattle.locate.specs.Locate.{file_blocks, storing, blocks_of};
 
+use laws::Refusal;
+use rules::Accepted;
+
 // Copies blocks to the output's front.
 fn copy_blocks(list: &[u16], out: &mut [u16])
     requires { length list.now ≤ length out.old }
@@ -22,22 +25,16 @@ fn copy_blocks(list: &[u16], out: &mut [u16])
 }
 
 // The blocks of a slot's file of an accepted image: 10, 21.
-fn slot_blocks(image: &[u8], layout: layout::Layout, slot: usize, out: &mut [u16]) -> laws::Counted
+fn slot_blocks(image: &[u8], layout: layout::Layout, slot: usize, out: &mut [u16]) -> Result<usize, Refusal>
     requires { LayoutRight layout × DiskRules layout image.now }
     ensures { filled result out.new ≡ storing (file_blocks layout image.now slot) out.old }
 {
     let slots = layout.slots;
     if slots <= slot {
-        return laws::Counted::Refused(laws::Refusal {
-            number: 10,
-            place: 0,
-        });
+        return Err(Refusal::NoFile);
     }
     if !slots::is_used(image, layout, slot) {
-        return laws::Counted::Refused(laws::Refusal {
-            number: 10,
-            place: 0,
-        });
+        return Err(Refusal::NoFile);
     }
     let size = slots::size_of(image, layout, slot);
     let start = slots::start_of(image, layout, slot);
@@ -45,29 +42,21 @@ fn slot_blocks(image: &[u8], layout: layout::Layout, slot: usize, out: &mut [u16
     let list = chain.list;
     let count = chain.count;
     if out.len() < count {
-        return laws::Counted::Refused(laws::Refusal {
-            number: 21,
-            place: 0,
-        });
+        return Err(Refusal::OutputTooShort);
     }
     copy_blocks(&list[0..count], out);
-    laws::Counted::Done(count)
+    Ok(count)
 }
 
 // The blocks of a slot's file, in order, to the front of the output, and how many they are.
-pub fn file_blocks(image: &[u8], slot: usize, out: &mut [u16]) -> laws::Counted
+pub fn file_blocks(image: &[u8], slot: usize, out: &mut [u16]) -> Result<usize, Refusal>
     ensures { filled result out.new ≡ blocks_of image.now slot out.old }
 {
-    let checked = disk::check(image);
-    let rules::Checked::Accepted {
+    let Accepted {
         kind,
         density,
-        files: _,
-        free: _,
-    } = checked
-    else {
-        return laws::Counted::Refused(rules::refusal_of(checked));
-    };
+        ..
+    } = disk::check(image)?;
     let layout = layout::layout_of(kind, density);
     slot_blocks(image, layout, slot, out)
 }

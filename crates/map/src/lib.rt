@@ -18,7 +18,7 @@ pub fn map_at(image: &[u8], block: usize) -> usize
     requires { map_offset block + 2 ≤ length image.now }
     ensures { result ≡ map_at (bytes image.now) block }
 {
-    blocks::number2(image, 1536 + 2 * block)
+    blocks::number::<2>(image, 1536 + 2 * block)
 }
 
 // Stores the map value of a block.
@@ -27,7 +27,7 @@ pub fn set_map(image: &mut [u8], block: usize, value: usize)
     requires { map_offset block + 2 ≤ length image.old }
     ensures { image.new ≡ set_map image.old block value }
 {
-    blocks::store2(image, 1536 + 2 * block, value);
+    blocks::store::<2>(image, 1536 + 2 * block, value);
 }
 
 // Whether a map value, or a start, names a data block.

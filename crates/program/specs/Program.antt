@@ -1,19 +1,15 @@
 -- S1000 program files (document 01, "The files"): the answer of their check, and beside it the rules as a record.
 -- A program's parts are its header and its keygroups, 150 bytes each. Assumes nothing.
-use Rattle.std.specs.Prelude.{◌≡◌, Bool, List, ℕ, zero, suc, ◌+◌, ◌*◌, ◌≤◌, ltb, eqb, length}
+use Rattle.std.specs.Prelude.{◌≡◌, Bool, List, ℕ, zero, suc, ◌+◌, ◌*◌, ◌≤◌, ltb, eqb, length, Ok, Some, Err, None}
 use Rattle.laws.specs.Truth.{pick, both, within}
-use Rattle.laws.specs.Refusals.{refusal_at}
-use Rattle.laws.specs.Scan.{over}
+use Rattle.laws.specs.Refusals.{refusal_at, Counted}
+use Rattle.laws.specs.Scan.{over, Lowest}
 use Rattle.laws.specs.Splice.{part}
 use Rattle.laws.specs.Reader.{bytes}
-use Rattle.laws.specs.declared.Lowest.{Lowest}
-use Rattle.laws.specs.declared.Lowest.TheVariants.{At, Nowhere}
 use Rattle.rows.specs.Rows.{or_else, rows_fault}
 use Rattle.rows.specs.Failing.{AllKept, Failing}
 use Rattle.headers.specs.declared.Table.{Table}
 use Rattle.headers.specs.declared.Table.TheVariants.{Program, Keygroup}
-use Rattle.laws.specs.declared.Counted.{Counted}
-use Rattle.laws.specs.declared.Counted.TheVariants.{Done, Refused}
 use Rattle.headers.specs.Tables.{rows_of}
 
 -- ---- parts
@@ -40,7 +36,7 @@ part_fault file k = rows_fault (part_at file k) (150 * k) (rows_of (table_of k))
 -- The same of the n parts from part k on: the lowest there is (`program_lowest`).
 unfoldable pub parts_fault : List ℕ → ℕ → ℕ → Lowest
 unfolding over part_fault
-parts_fault file k n = over (λ i rest. or_else (part_fault file i) rest) Nowhere k n
+parts_fault file k n = over (λ i rest. or_else (part_fault file i) rest) None k n
 
 -- From 1 to 99 keygroups, and the length that they and the header make.
 abbrev pub counted : List ℕ → ℕ → Bool
@@ -48,11 +44,11 @@ counted file n = both (within 1 99 n) (eqb (length file) (150 * (n + 1)))
 
 -- Refusal 20.
 abbrev pub refused_at : ℕ → Counted
-refused_at place = Refused (refusal_at 20 place)
+refused_at place = Err (refusal_at 20 place)
 
 abbrev pub answer_of : ℕ → Lowest → Counted
-answer_of n (At place) = refused_at place
-answer_of n Nowhere = Done n
+answer_of n (Some place) = refused_at place
+answer_of n None = Ok n
 
 -- The check's answer: 20 at 0 for a file shorter than its header, at 42 for the number of keygroups or the length, else at the lowest failing offset.
 unfoldable pub program_of : List ℕ → Counted

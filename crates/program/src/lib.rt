@@ -4,6 +4,8 @@
 ghost use Rattle.std.specs.Prelude.{◌≡◌, ◌*◌, ◌≤◌, length};
 ghost use Rattle.program.specs.Program.{table_of, parts_fault, refused_at, program_of};
 
+use laws::Refusal;
+
 // Part 0 is the program's header, the others are keygroups.
 fn table_of(part: usize) -> headers::Table
     ensures { result ≡ table_of part }
@@ -15,7 +17,7 @@ fn table_of(part: usize) -> headers::Table
 }
 
 // The lowest offset of the file where one of so many parts breaks its table.
-fn parts_fault(file: &[u8], parts: usize) -> laws::Lowest
+fn parts_fault(file: &[u8], parts: usize) -> Option<usize>
     requires { (parts ≤ 100) × (150 * parts ≤ length file.now) }
     ensures { result ≡ parts_fault file.now 0 parts }
 {
@@ -24,23 +26,23 @@ fn parts_fault(file: &[u8], parts: usize) -> laws::Lowest
         let at = 150 * part;
         let end = at + 150;
         let fault = headers::fault(&file[at..end], at, table_of(part));
-        if let laws::Lowest::At(place) = fault {
-            return laws::Lowest::At(place);
+        if let Some(place) = fault {
+            return Some(place);
         }
         part += 1;
     }
-    laws::Lowest::Nowhere
+    None
 }
 
-fn refused(place: usize) -> laws::Counted
+fn refused(place: usize) -> Result<usize, Refusal>
     ensures { result ≡ refused_at place }
 {
-    laws::Counted::Refused(laws::Refusal { number: 20, place })
+    Err(Refusal::BadProgram(place))
 }
 
 // The number of keygroups, or refusal 20: at 0 for a file shorter than its header, at 42 for that number or the length, else at the lowest
 // failing offset.
-pub fn check(file: &[u8]) -> laws::Counted
+pub fn check(file: &[u8]) -> Result<usize, Refusal>
     ensures { result ≡ program_of file.now }
 {
     if file.len() < 150 {
@@ -59,7 +61,7 @@ pub fn check(file: &[u8]) -> laws::Counted
     }
     let fault = parts_fault(file, parts);
     match fault {
-        laws::Lowest::At(place) => refused(place),
-        laws::Lowest::Nowhere => laws::Counted::Done(keygroups),
+        Some(place) => refused(place),
+        None => Ok(keygroups),
     }
 }

@@ -1,6 +1,6 @@
 -- A file that a call doesn't remove keeps slot, name, type and content (demand 3, "files not named by the call").
 -- A put is granted an empty slot, a remove the slot that has its name and type. Assumes nothing.
-use Rattle.std.specs.Prelude.{◌≡◌, refl, true, List, ℕ}
+use Rattle.std.specs.Prelude.{◌≡◌, refl, true, List, ℕ, Ok, Err}
 use Rattle.std.proofs.Common.{sym, ◌∙◌, ne_eqb}
 use Rattle.std.proofs.Math.Path.{ap}
 use Rattle.std.proofs.Math.Bool.{true≢false}
@@ -8,9 +8,7 @@ use Rattle.std.proofs.Math.Option.{Option, none, some}
 use Rattle.laws.specs.Lemmas.Scan.{at→}
 use Rattle.layout.specs.declared.Layout.{Layout}
 use Rattle.view.specs.Disk.{File}
-use Rattle.record.specs.Record.{Shape, Files, Call, check, list, find, page, put, remove, salvage, is_named, named, Removes, is_empty, replaced, slot_of, empty_slot, judge_name, judge_put, step_files}
-use Rattle.record.specs.declared.Judged.{Judged}
-use Rattle.record.specs.declared.Judged.TheVariants.{Refuse, Grant}
+use Rattle.record.specs.Record.{Shape, Files, Call, check, list, find, page, put, remove, salvage, is_named, named, Removes, is_empty, replaced, slot_of, empty_slot, judge_name, judge_put, step_files, Judged}
 use Rattle.record.specs.Lemmas.Granted.{granted_name}
 use Rattle.record.proofs.Lemmas.Granted.{granted_put}
 use Rattle.record.specs.Step.{Reading, reads_check, reads_list, reads_find, reads-page, reads_salvage}
@@ -26,15 +24,15 @@ module _ (shape : Shape) (files : Files) (t : ℕ) (f : File) (there : files t �
 
   put_keeps : (name : List ℕ) (type : ℕ) (content : List ℕ) (j : Judged) → judge_put l files name type content ≡ j → (step_files shape files (put name type content)).state t ≡ some f
   unfolding step_files
-  put_keeps name type content (Refuse r) e = rw e there
-  put_keeps name type content (Grant s) e =
+  put_keeps name type content (Err r) e = rw e there
+  put_keeps name type content (Ok s) e =
       let w = at→ (λ x. is_empty (files x)) 0 l.slots s (unfold empty_slot in (granted_put l files name type content s e).slot) in
       rw e (other_slot s _ (λ q. true≢false (sym w.2 ∙ ap (λ (x : ℕ). is_empty (files x)) (sym q) ∙ ap is_empty there)))
 
   remove_keeps : (name : List ℕ) (type : ℕ) (j : Judged) → judge_name l files name type ≡ j → (is_named l name type f ≡ true → ⊥) → (step_files shape files (remove name type)).state t ≡ some f
   unfolding step_files
-  remove_keeps name type (Refuse r) e ne = rw e there
-  remove_keeps name type (Grant s) e ne =
+  remove_keeps name type (Err r) e ne = rw e there
+  remove_keeps name type (Ok s) e ne =
       let w = at→ (λ x. named l name type (files x)) 0 l.slots s (unfold slot_of in granted_name l files name type s e) in
       rw e (other_slot s none (λ q. ne (sym (ap (named l name type) there) ∙ ap (λ (x : ℕ). named l name type (files x)) q ∙ w.2)))
 

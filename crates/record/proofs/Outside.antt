@@ -1,6 +1,6 @@
 -- Nothing else in the image changes (document 01, "Calls on an accepted disk"): which bytes a call touches, that it keeps every other, and where they lie.
 -- By cases on the call and on the record's judgement; blocks that are taken or freed are data blocks. Assumes nothing.
-use Rattle.std.specs.Prelude.{◌≡◌, List, ◌⊎◌, false, ℕ, ◌+◌, ◌-◌, ◌<◌}
+use Rattle.std.specs.Prelude.{◌≡◌, List, ◌⊎◌, false, ℕ, ◌+◌, ◌-◌, ◌<◌, Ok, Err}
 use Rattle.std.proofs.Math.Path.{refl}
 use Rattle.std.proofs.Common.{inl, inr, arith}
 use Rattle.std.proofs.Math.Decide.{dec_lt, ℕ_discrete}
@@ -11,9 +11,7 @@ use Rattle.layout.specs.Right.{LayoutRight}
 use Rattle.map.specs.Map.{Data}
 use Rattle.image.specs.Image.{files_in, DiskRules, remove_image, put_image}
 use Rattle.image.specs.Outside.{Within, InEntry, InSlot, InMap, InBlock, RemoveTouches, PutTouches, remove_outside, put_outside}
-use Rattle.record.specs.Record.{Call, check, list, find, page, put, remove, salvage, judge_name, judge_put}
-use Rattle.record.specs.declared.Judged.{Judged}
-use Rattle.record.specs.declared.Judged.TheVariants.{Refuse, Grant}
+use Rattle.record.specs.Record.{Call, check, list, find, page, put, remove, salvage, judge_name, judge_put, Judged}
 use Rattle.record.proofs.Lemmas.Granted.{granted_put}
 use Rattle.record.specs.Lemmas.Update.{chosen-inside}
 use Rattle.record.proofs.Lemmas.Update.{remove_slot, remove_inside, put_slot, put_identity}
@@ -32,22 +30,22 @@ module _ (l : Layout) (right : LayoutRight l) where
     step_outside (put name type content) out = go (judge_put l (files_in l img) name type content) refl
       where
         go : (j : Judged) → judge_put l (files_in l img) name type content ≡ j → bytes (image_after l img (put name type content)) i ≡ bytes img i
-        go (Refuse r) e = rw e refl
-        go (Grant s) e = rw e (put_outside l img s right name (granted_put l (files_in l img) name type content s e).name-legal type content i (λ p. out (s, e, p)))
+        go (Err r) e = rw e refl
+        go (Ok s) e = rw e (put_outside l img s right name (granted_put l (files_in l img) name type content s e).name-legal type content i (λ p. out (s, e, p)))
     step_outside (remove name type) out = go (judge_name l (files_in l img) name type) refl
       where
         go : (j : Judged) → judge_name l (files_in l img) name type ≡ j → bytes (image_after l img (remove name type)) i ≡ bytes img i
-        go (Refuse r) e = rw e refl
-        go (Grant s) e = rw e (remove_outside l img s i (λ p. out (s, e, p)))
+        go (Err r) e = rw e refl
+        go (Ok s) e = rw e (remove_outside l img s i (λ p. out (s, e, p)))
     step_outside (salvage report) out = refl
 
     module _ (rules : DiskRules l img) where
-      put_where : (name : List ℕ) (type : ℕ) (content : List ℕ) (s : ℕ) → judge_put l (files_in l img) name type content ≡ Grant s → PutTouches l img s content i → Changeable l i
+      put_where : (name : List ℕ) (type : ℕ) (content : List ℕ) (s : ℕ) → judge_put l (files_in l img) name type content ≡ Ok s → PutTouches l img s content i → Changeable l i
       put_where name type content s e (inl p) = inl (s, (put_slot l right img rules name type content s e).0, p)
       put_where name type content s e (inr (inl p)) = inr (inl (p.0, chosen-inside l right img rules name type content s e p.0 p.1, p.2))
       put_where name type content s e (inr (inr p)) = inr (inr (p.0, chosen-inside l right img rules name type content s e p.0 p.1, p.2))
 
-      remove_where : (name : List ℕ) (type s : ℕ) → judge_name l (files_in l img) name type ≡ Grant s → RemoveTouches l img s i → Changeable l i
+      remove_where : (name : List ℕ) (type s : ℕ) → judge_name l (files_in l img) name type ≡ Ok s → RemoveTouches l img s i → Changeable l i
       remove_where name type s e (inl p) = inl (s, (remove_slot l right img rules name type s e).0, (p.0, omega (arith, p.1)))
       remove_where name type s e (inr p) = inr (inl (p.0, remove_inside l right img rules name type s e p.0 p.1, p.2))
 
@@ -76,7 +74,7 @@ module _ (l : Layout) (right : LayoutRight l) where
     elsewhere (inl e) = slot_apart l right s e.0 i right.directory_apart slot (omega (arith, inside.0), omega (arith, inside.1)) e.1.1 e.2
     elsewhere (inr e) = omega (arith, right.directory_low, inside.1, e.1.0, e.2.0)
 
-    put_keeps : (name : List ℕ) (type : ℕ) (content : List ℕ) (t : ℕ) → judge_put l (files_in l img) name type content ≡ Grant t → Dec (t ≡ s)
+    put_keeps : (name : List ℕ) (type : ℕ) (content : List ℕ) (t : ℕ) → judge_put l (files_in l img) name type content ≡ Ok t → Dec (t ≡ s)
         → bytes (put_image l img t name type content) i ≡ bytes img i
     put_keeps name type content t e (yes z) =
         let j = i - (slot_offset l t + 22) in
@@ -89,7 +87,7 @@ module _ (l : Layout) (right : LayoutRight l) where
         out (inr (inl q)) = elsewhere (inl (q.0, chosen-inside l right img rules name type content t e q.0 q.1, q.2))
         out (inr (inr q)) = elsewhere (inr (q.0, chosen-inside l right img rules name type content t e q.0 q.1, q.2))
 
-    remove_keeps : (name : List ℕ) (type t : ℕ) → judge_name l (files_in l img) name type ≡ Grant t → bytes (remove_image l img t) i ≡ bytes img i
+    remove_keeps : (name : List ℕ) (type t : ℕ) → judge_name l (files_in l img) name type ≡ Ok t → bytes (remove_image l img t) i ≡ bytes img i
     remove_keeps name type t e = remove_outside l img t i out
       where
         -- what remove clears ends before the identity
@@ -110,11 +108,11 @@ module _ (l : Layout) (right : LayoutRight l) where
     identity_fixed (put name type content) = go (judge_put l (files_in l img) name type content) refl
       where
         go : (j : Judged) → judge_put l (files_in l img) name type content ≡ j → bytes (image_after l img (put name type content)) i ≡ bytes img i
-        go (Refuse r) e = rw e refl
-        go (Grant t) e = rw e (put_keeps name type content t e (ℕ_discrete t s))
+        go (Err r) e = rw e refl
+        go (Ok t) e = rw e (put_keeps name type content t e (ℕ_discrete t s))
     identity_fixed (remove name type) = go (judge_name l (files_in l img) name type) refl
       where
         go : (j : Judged) → judge_name l (files_in l img) name type ≡ j → bytes (image_after l img (remove name type)) i ≡ bytes img i
-        go (Refuse r) e = rw e refl
-        go (Grant t) e = rw e (remove_keeps name type t e)
+        go (Err r) e = rw e refl
+        go (Ok t) e = rw e (remove_keeps name type t e)
     identity_fixed (salvage report) = refl

@@ -1,6 +1,6 @@
 -- A name may be typed in any spelling (document 02, request two): a call comes to the same as with its name in capitals, on the record and on an image.
 -- A name and its capitals are legal together, find one slot, keep one file and are stored as one area. Assumes nothing.
-use Rattle.std.specs.Prelude.{◌≡◌, List, ℕ}
+use Rattle.std.specs.Prelude.{◌≡◌, List, ℕ, Ok, Err}
 use Rattle.std.proofs.Math.Path.{refl}
 use Rattle.std.proofs.Math.Option.{Option, none, some}
 use Rattle.laws.specs.Lemmas.Scan.{lowest_cong}
@@ -9,9 +9,7 @@ use Rattle.names.specs.Names.{capitals}
 use Rattle.names.proofs.NameLaws.{capitals_twice, capitals-legal, capitals-area}
 use Rattle.view.specs.Disk.{File}
 use Rattle.image.specs.Image.{files_in, new_entry, put_image}
-use Rattle.record.specs.Record.{Shape, Files, Call, check, list, find, page, put, remove, salvage, named, slot_of, judge_name, judge_put, step_files}
-use Rattle.record.specs.declared.Judged.{Judged}
-use Rattle.record.specs.declared.Judged.TheVariants.{Refuse, Grant}
+use Rattle.record.specs.Record.{Shape, Files, Call, check, list, find, page, put, remove, salvage, named, slot_of, judge_name, judge_put, step_files, Judged}
 use Rattle.record.specs.Step.{after, image_after, step_image}
 use Rattle.record.specs.Spelling.{in_capitals}
 
@@ -47,8 +45,8 @@ files_spelled shape files (salvage report) = refl
 put_image_is : (l : Layout) (img name : List ℕ) (type : ℕ) (content : List ℕ) (j : Judged)
     → after img (λ s. put_image l img s (capitals l name) type content) j ≡ after img (λ s. put_image l img s name type content) j
 unfolding put_image new_entry
-put_image_is l img name type content (Refuse r) = refl
-put_image_is l img name type content (Grant s) = rw (capitals-area l name) refl
+put_image_is l img name type content (Err r) = refl
+put_image_is l img name type content (Ok s) = rw (capitals-area l name) refl
 
 after_spelled : (l : Layout) (img : List ℕ) (c : Call) → image_after l img (in_capitals l c) ≡ image_after l img c
 unfolding image_after

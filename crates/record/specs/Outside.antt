@@ -1,6 +1,6 @@
 -- Nothing else in the image changes (document 01, "Calls on an accepted disk"): which bytes a call touches, that it keeps every other, and where they lie.
 -- By cases on the call and on the record's judgement; blocks that are taken or freed are data blocks. Assumes nothing.
-use Rattle.std.specs.Prelude.{◌≡◌, List, ◌⊎◌, ℕ, ◌≤◌, ◌<◌}
+use Rattle.std.specs.Prelude.{◌≡◌, List, ◌⊎◌, ℕ, ◌≤◌, ◌<◌, Ok}
 use Rattle.std.proofs.Common.{inl, inr, arith}
 use Rattle.layout.specs.declared.Layout.{Layout}
 use Rattle.layout.specs.Layouts.{slot_offset, block_offset}
@@ -9,7 +9,6 @@ use Rattle.map.specs.Map.{Data, Outside}
 use Rattle.image.specs.Image.{files_in}
 use Rattle.image.specs.Outside.{InSlot, InMap, InBlock, RemoveTouches, PutTouches}
 use Rattle.record.specs.Record.{Call, check, list, find, page, put, remove, salvage, judge_name, judge_put}
-use Rattle.record.specs.declared.Judged.TheVariants.{Grant}
 
 -- On an accepted image a call that only reads, is refused or salvages touches no byte, and a granted put or remove those of the slot granted.
 abbrev pub Touches : Layout → List ℕ → Call → ℕ → Type 0
@@ -17,8 +16,8 @@ Touches l img check i = ⊥
 Touches l img (list s) i = ⊥
 Touches l img (find name type) i = ⊥
 Touches l img (page s offset out) i = ⊥
-Touches l img (put name type content) i = (s : ℕ) × (judge_put l (files_in l img) name type content ≡ Grant s) × PutTouches l img s content i
-Touches l img (remove name type) i = (s : ℕ) × (judge_name l (files_in l img) name type ≡ Grant s) × RemoveTouches l img s i
+Touches l img (put name type content) i = (s : ℕ) × (judge_put l (files_in l img) name type content ≡ Ok s) × PutTouches l img s content i
+Touches l img (remove name type) i = (s : ℕ) × (judge_name l (files_in l img) name type ≡ Ok s) × RemoveTouches l img s i
 Touches l img (salvage report) i = ⊥
 
 -- Whatever the call, these are bytes of slots, map values of data blocks, and data blocks.

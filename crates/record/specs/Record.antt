@@ -1,12 +1,10 @@
 -- Demand 3's plain record (document 01, "Calls on an accepted disk"): what each call answers and what it changes, judged on names,
 -- types and contents alone. It is fed a call's arguments and never the image. Assumes nothing.
-use Rattle.std.specs.Prelude.{◌≡◌, Bool, true, false, List, [], ◌++◌, ℕ, ◌+◌, ◌-◌, min, length, drop, ltb, eqb}
+use Rattle.std.specs.Prelude.{◌≡◌, Bool, true, false, List, [], ◌++◌, ℕ, ◌+◌, ◌-◌, min, length, drop, ltb, eqb, Ok, None, Some, Err, Result}
 use Rattle.std.proofs.Math.Bool.{not}
 use Rattle.std.proofs.Math.Option.{Option, none, some}
 use Rattle.laws.specs.Truth.{pick, both}
-use Rattle.laws.specs.Scan.{lowest, count, total}
-use Rattle.laws.specs.declared.Lowest.{Lowest}
-use Rattle.laws.specs.declared.Lowest.TheVariants.{At, Nowhere}
+use Rattle.laws.specs.Scan.{lowest, count, total, Lowest}
 use Rattle.laws.specs.Lists.{same}
 use Rattle.laws.specs.Splice.{part}
 use Rattle.laws.specs.Reader.{tab}
@@ -20,9 +18,7 @@ use Rattle.blocks.specs.Blocks.{blocks_for}
 use Rattle.names.specs.Names.{legal_name, legal_type, capitals}
 use Rattle.view.specs.Disk.{File, takes}
 use Rattle.laws.specs.declared.Refusal.{Refusal}
-use Rattle.laws.specs.Refusals.{refusal_at}
-use Rattle.record.specs.declared.Judged.{Judged}
-use Rattle.record.specs.declared.Judged.TheVariants.{Refuse, Grant}
+use Rattle.laws.specs.Refusals.{refusal_at, number_of, place_of}
 
 -- What stays over all calls: kind and density, and the layout that they fix.
 pub record Shape : Type 0 where
@@ -66,11 +62,11 @@ pub record Answer : Type 0 where
 -- A refusal's number, 0 for none; and its place, or what is given for none.
 abbrev pub number_in : Option Refusal → ℕ
 number_in none = 0
-number_in (some r) = r.number
+number_in (some r) = number_of r
 
 abbrev pub place_or : Option Refusal → ℕ → ℕ
 place_or none value = value
-place_or (some r) value = r.place
+place_or (some r) value = place_of r
 
 abbrev pub kind_number : Kind → ℕ
 kind_number S900 = 900
@@ -128,8 +124,11 @@ pub record Turn : Type 0 where
 
 -- ---- a call on a name: refused by number and place, or granted a slot
 
+abbrev pub Judged : Type 0
+Judged = Result ℕ Refusal
+
 abbrev pub refuse : ℕ → ℕ → Judged
-refuse number place = Refuse (refusal_at number place)
+refuse number place = Err (refusal_at number place)
 
 abbrev pub refuse_if : Bool → ℕ → Judged → Judged
 refuse_if true n next = refuse n 0
@@ -137,13 +136,13 @@ refuse_if false n next = next
 
 -- refused at the slot found
 abbrev pub refuse_at : ℕ → Lowest → Judged → Judged
-refuse_at n (At s) next = refuse n s
-refuse_at n Nowhere next = next
+refuse_at n (Some s) next = refuse n s
+refuse_at n None next = next
 
 -- refused where no slot is found
 abbrev pub or_refuse : ℕ → Lowest → (ℕ → Judged) → Judged
-or_refuse n (At s) next = next s
-or_refuse n Nowhere next = refuse n 0
+or_refuse n (Some s) next = next s
+or_refuse n None next = refuse n 0
 
 -- A file of the disk may have this name and this type; a call that gives others is refused by 11.
 abbrev pub is_legal : Layout → List ℕ → ℕ → Bool
@@ -197,7 +196,7 @@ module _ (l : Layout) (files : Files) where
   -- find and remove: 11, 10
   unfoldable pub judge_name : List ℕ → ℕ → Judged
   unfolding legal_name legal_type slot_of
-  judge_name name type = refuse_if (not (is_legal l name type)) 11 (or_refuse 10 (slot_of name type) (λ s. Grant s))
+  judge_name name type = refuse_if (not (is_legal l name type)) 11 (or_refuse 10 (slot_of name type) (λ s. Ok s))
 
   -- put: 11, 13, 12, 14, 15, 16
   unfoldable pub judge_put : List ℕ → ℕ → List ℕ → Judged
@@ -209,7 +208,7 @@ module _ (l : Layout) (files : Files) where
       (or_refuse 14 empty_slot (λ s.
       refuse_if (ltb free (blocks_for (length content))) 15
       (refuse_if (ltb 16777215 (length content)) 16
-      (Grant s))))))
+      (Ok s))))))
 
   -- the file of a slot, none above the last
   unfoldable pub file_at : ℕ → Option File
@@ -218,16 +217,16 @@ module _ (l : Layout) (files : Files) where
 -- ---- what a judged call comes to
 
 abbrev pub finding : {S : Type 0} → S → Judged → Outcome S
-finding state (Refuse r) = answered state (refused_by r)
-finding state (Grant s) = answered state (valued s)
+finding state (Err r) = answered state (refused_by r)
+finding state (Ok s) = answered state (valued s)
 
 abbrev pub putting : {S : Type 0} → S → (ℕ → S) → Judged → Outcome S
-putting state after (Refuse r) = answered state (refused_by r)
-putting state after (Grant s) = answered (after s) (valued s)
+putting state after (Err r) = answered state (refused_by r)
+putting state after (Ok s) = answered (after s) (valued s)
 
 abbrev pub removing : {S : Type 0} → S → (ℕ → S) → Judged → Outcome S
-removing state after (Refuse r) = answered state (refused_by r)
-removing state after (Grant s) = answered (after s) done
+removing state after (Err r) = answered state (refused_by r)
+removing state after (Ok s) = answered (after s) done
 
 -- list: 10
 abbrev pub listing : {S : Type 0} → S → Option File → Outcome S

@@ -1,6 +1,6 @@
 -- Refusal 16 is never due (document 02, request seven): put's order with it and the order without it grant and refuse alike, whatever the record.
 -- 15 is asked first, and a content that three bytes of length can't tell needs 16,384 blocks; no data area has as many. Assumes nothing.
-use Rattle.std.specs.Prelude.{◌≡◌, refl, Bool, true, false, not, List, ◌↔◌, ltb, eqb, length}
+use Rattle.std.specs.Prelude.{◌≡◌, refl, Bool, true, false, not, List, ◌↔◌, ltb, eqb, length, Ok}
 use Rattle.std.proofs.Math.Path.{ap, fun_ext}
 use Rattle.std.proofs.Common.{arith, le-ltb, ltb-false}
 use Prim.Native.Nat.{ℕ, ◌≤◌, ◌<◌}
@@ -10,16 +10,14 @@ use Rattle.layout.specs.Layouts.{data_blocks}
 use Rattle.layout.specs.Right.{LayoutRight}
 use Rattle.blocks.specs.Blocks.{blocks_for}
 use Rattle.names.specs.Names.{legal_name, legal_type}
-use Rattle.record.specs.Record.{Files, refuse, refuse_if, refuse_at, or_refuse, is_legal, slot_of, empty_slot, free, judge_put}
+use Rattle.record.specs.Record.{Files, refuse, refuse_if, refuse_at, or_refuse, is_legal, slot_of, empty_slot, free, judge_put, Judged}
 use Rattle.record.specs.Order.{room_for}
-use Rattle.record.specs.declared.Judged.{Judged}
-use Rattle.record.specs.declared.Judged.TheVariants.{Grant}
 
 -- ---- the last refusals
 
 -- 15 alone, for a content of so many bytes where so many blocks are free.
 abbrev pub room_without : ℕ → ℕ → ℕ → Judged
-room_without free size slot = refuse_if (ltb free (blocks_for size)) 15 (Grant slot)
+room_without free size slot = refuse_if (ltb free (blocks_for size)) 15 (Ok slot)
 
 -- the orders are alike for a content that three bytes of length tell, or that there is no room for
 alike_if : (free size slot : ℕ) → (blocks_for size ≤ free → size < 16777216) → room_for free size slot ≡ room_without free size slot
@@ -36,7 +34,7 @@ alike_exactly free = (λ alike. go alike (dec_lt free 16384), λ few size slot. 
     go : ((size slot : ℕ) → room_for free size slot ≡ room_without free size slot) → Dec (free < 16384) → free < 16384
     go alike (yes few) = few
     go alike (no many) =
-        let z : refuse 16 0 ≡ Grant 0 = rw (le-ltb free (blocks_for 16777216) (omega arith)) at (alike 16777216 0) in
+        let z : refuse 16 0 ≡ Ok 0 = rw (le-ltb free (blocks_for 16777216) (omega arith)) at (alike 16777216 0) in
         absurd (let o : ◌≡◌ {A = ℕ} 0 1 = cc in omega arith)
 
 -- ---- the order

@@ -1,15 +1,13 @@
 -- What a call comes to on an image that meets the disk rules. Assumes nothing.
-use Rattle.std.specs.Prelude.{List, ℕ}
+use Rattle.std.specs.Prelude.{List, ℕ, Ok, Err}
 use Rattle.layout.specs.declared.Layout.{Layout}
 use Rattle.image.specs.Image.{files_in, remove_image, put_image}
-use Rattle.record.specs.Record.{Shape, Call, check, list, find, page, put, remove, salvage, Outcome, judge_name, judge_put, step_files}
-use Rattle.record.specs.declared.Judged.{Judged}
-use Rattle.record.specs.declared.Judged.TheVariants.{Refuse, Grant}
+use Rattle.record.specs.Record.{Shape, Call, check, list, find, page, put, remove, salvage, Outcome, judge_name, judge_put, step_files, Judged}
 
 -- The image that a judged call leaves.
 abbrev pub after : List ℕ → (ℕ → List ℕ) → Judged → List ℕ
-after img change (Refuse r) = img
-after img change (Grant s) = change s
+after img change (Err r) = img
+after img change (Ok s) = change s
 
 unfoldable pub image_after : Layout → List ℕ → Call → List ℕ
 unfolding put_image remove_image judge_put judge_name

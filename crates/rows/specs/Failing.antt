@@ -1,15 +1,13 @@
 -- What a table's fault says: it is the lowest place where a number breaks its row's rule, and there is none exactly where every row is kept.
 -- The rows of a table stand one after another, so that the first broken row gives less than any row after it could. Assumes nothing.
-use Rattle.std.specs.Prelude.{◌≡◌, Bool, true, false, not, ◌⊎◌, ℕ, ◌+◌, ◌*◌, ◌≤◌, ◌<◌, leb}
+use Rattle.std.specs.Prelude.{◌≡◌, Bool, true, false, not, ◌⊎◌, ℕ, ◌+◌, ◌*◌, ◌≤◌, ◌<◌, leb, Some, None}
 use Rattle.std.proofs.Math.Path.{refl}
 use Rattle.std.proofs.Common.{sym, ◌∙◌, true≢false, inl, inr, arith, leb-true}
 use mathlib.Core.List.{List, [], ◌∷◌}
 use Rattle.laws.specs.Truth.{pick, both}
 use Rattle.laws.specs.Lemmas.Truth.{both_true, clash}
-use Rattle.laws.specs.Scan.{lowest}
+use Rattle.laws.specs.Scan.{lowest, Lowest}
 use Rattle.laws.specs.Lemmas.Scan.{nowhere→, at→, lowest_least}
-use Rattle.laws.specs.declared.Lowest.{Lowest}
-use Rattle.laws.specs.declared.Lowest.TheVariants.{At, Nowhere}
 use Rattle.rows.specs.declared.Width.{Width}
 use Rattle.rows.specs.declared.Width.TheVariants.{One, Two, Four}
 use Rattle.rows.specs.declared.Row.{Row}
@@ -77,12 +75,12 @@ true_back true e = refl
 true_back false e = absurd (true≢false e)
 
 -- there is a place, or there is none
-pub never : {place : ℕ} → At place ≡ Nowhere → ⊥
+pub never : {place : ℕ} → Some place ≡ None → ⊥
 never e = let o : ◌≡◌ {A = ℕ} 0 1 = cc in omega arith
 
-pub none_of : (f g : Lowest) → or_else f g ≡ Nowhere → (f ≡ Nowhere) × (g ≡ Nowhere)
-none_of (At place) g e = absurd (never e)
-none_of Nowhere g e = (refl, e)
+pub none_of : (f g : Lowest) → or_else f g ≡ None → (f ≡ None) × (g ≡ None)
+none_of (Some place) g e = absurd (never e)
+none_of None g e = (refl, e)
 
 module _ (header : List ℕ) (base : ℕ) (row : Row) where
   -- a broken row's place lies in the row
@@ -92,10 +90,10 @@ module _ (header : List ℕ) (base : ℕ) (row : Row) where
       let q = place_in base run.at b.index run.count (size_of run.width * run.count) run.own b.inside (size_least run.width run.count) in
       (omega (arith, b.here), omega (arith, b.here))
 
-  found : (place : ℕ) (w : Lowest) → lowest (breaks header base (run_of row)) 0 (run_of row).count ≡ w → placed base (run_of row) w ≡ At place
+  found : (place : ℕ) (w : Lowest) → lowest (breaks header base (run_of row)) 0 (run_of row).count ≡ w → placed base (run_of row) w ≡ Some place
       → Least (Broken header base row) place
-  found place Nowhere e p = absurd (never (sym p))
-  found place (At i) e p =
+  found place None e p = absurd (never (sym p))
+  found place (Some i) e p =
       let run : Run = run_of row in
       let g = at→ (breaks header base run) 0 run.count i e in
       let o : place_of base run i ≡ place = cc in
@@ -107,16 +105,16 @@ module _ (header : List ℕ) (base : ℕ) (row : Row) where
             omega (arith, o, b.here);
       }
 
-  clean : (w : Lowest) → lowest (breaks header base (run_of row)) 0 (run_of row).count ≡ w → placed base (run_of row) w ≡ Nowhere → Kept header base row
-  clean Nowhere e p j h = true_back (keeps header base (run_of row) j) (nowhere→ (breaks header base (run_of row)) 0 (run_of row).count e j (omega arith) (omega arith))
-  clean (At i) e p j h = absurd (never p)
+  clean : (w : Lowest) → lowest (breaks header base (run_of row)) 0 (run_of row).count ≡ w → placed base (run_of row) w ≡ None → Kept header base row
+  clean None e p j h = true_back (keeps header base (run_of row) j) (nowhere→ (breaks header base (run_of row)) 0 (run_of row).count e j (omega arith) (omega arith))
+  clean (Some i) e p j h = absurd (never p)
 
   -- a row's fault is its lowest broken place
-  pub row_least : (place : ℕ) → row_fault header base row ≡ At place → Least (Broken header base row) place
+  pub row_least : (place : ℕ) → row_fault header base row ≡ Some place → Least (Broken header base row) place
   unfolding run_fault
   row_least place e = found place (lowest (breaks header base (run_of row)) 0 (run_of row).count) refl e
 
-  pub row→kept : row_fault header base row ≡ Nowhere → Kept header base row
+  pub row→kept : row_fault header base row ≡ None → Kept header base row
   unfolding run_fault
   row→kept e = clean (lowest (breaks header base (run_of row)) 0 (run_of row).count) refl e
 
@@ -147,9 +145,9 @@ module _ (header : List ℕ) (base : ℕ) where
       (omega arith, omega arith)
 
   first_fault_of : (row : Row) (rows : List Row) (low high place : ℕ) → in_order low high (row ∷ rows) ≡ true → (w : Lowest) → row_fault header base row ≡ w
-      → or_else w (rows_fault header base rows) ≡ At place → (rows_fault header base rows ≡ At place → Least (Failing header base rows) place)
+      → or_else w (rows_fault header base rows) ≡ Some place → (rows_fault header base rows ≡ Some place → Least (Failing header base rows) place)
       → Least (Failing header base (row ∷ rows)) place
-  first_fault_of row rows low high place o (At x) e p ih =
+  first_fault_of row rows low high place o (Some x) e p ih =
       let q : x ≡ place = cc in
       let l : Least (Broken header base row) place = row_least header base row place (e ∙ p) in
       record {
@@ -164,14 +162,14 @@ module _ (header : List ℕ) (base : ℕ) where
           let g = broken_in header base row place l.holds in
           let u = failing_in rows (end_of row) high d.1 other f in
           omega arith
-  first_fault_of row rows low high place o Nowhere e p ih = record { holds = inr (ih p).holds; least = λ other f. from (ih p) other f }
+  first_fault_of row rows low high place o None e p ih = record { holds = inr (ih p).holds; least = λ other f. from (ih p) other f }
     where
       from : Least (Failing header base rows) place → (other : ℕ) → Broken header base row other ⊎ Failing header base rows other → place ≤ other
       from l other (inl b) = absurd (clash (row→kept header base row e b.index b.inside) b.broken)
       from l other (inr f) = l.least other f
 
   -- The place that a table gives is the lowest at which it is broken.
-  pub lowest_failing : (rows : List Row) (low high place : ℕ) → in_order low high rows ≡ true → rows_fault header base rows ≡ At place → Least (Failing header base rows) place
+  pub lowest_failing : (rows : List Row) (low high place : ℕ) → in_order low high rows ≡ true → rows_fault header base rows ≡ Some place → Least (Failing header base rows) place
   unfolding rows_fault
   lowest_failing [] low high place o e = absurd (never (sym e))
   lowest_failing (row ∷ rows) low high place o e =

@@ -1,11 +1,9 @@
 -- Rules for the numbers of a header and tables of such rules (document 01, "The files"): what a row asks, and the first place where a table is broken.
 -- A row is a run of numbers under one rule; a table is a list of rows in the paper's order. Assumes nothing.
-use Rattle.std.specs.Prelude.{◌≡◌, Bool, true, false, not, List, [], ◌∷◌, ℕ, ◌+◌, ◌*◌, ◌<◌, leb, eqb}
+use Rattle.std.specs.Prelude.{◌≡◌, Bool, true, false, not, List, [], ◌∷◌, ℕ, ◌+◌, ◌*◌, ◌<◌, leb, eqb, Some, None}
 use Rattle.laws.specs.Truth.{pick, within}
-use Rattle.laws.specs.Scan.{lowest}
+use Rattle.laws.specs.Scan.{lowest, Lowest}
 use Rattle.laws.specs.Reader.{bytes}
-use Rattle.laws.specs.declared.Lowest.{Lowest}
-use Rattle.laws.specs.declared.Lowest.TheVariants.{At, Nowhere}
 use Rattle.blocks.specs.Numbers.{number, top}
 use Rattle.names.specs.Names.{akaii_byte, ascii_byte}
 use Rattle.rows.specs.declared.Width.{Width}
@@ -88,8 +86,8 @@ place_of base run j = pick run.own (base + run.at + j) (base + run.at)
 
 -- The place of the first number that breaks a run's rule.
 abbrev pub placed : ℕ → Run → Lowest → Lowest
-placed base run Nowhere = Nowhere
-placed base run (At j) = At (place_of base run j)
+placed base run None = None
+placed base run (Some j) = Some (place_of base run j)
 
 unfoldable pub run_fault : List ℕ → ℕ → Run → Lowest
 unfolding lowest keeps
@@ -100,11 +98,11 @@ row_fault header base row = run_fault header base (run_of row)
 
 -- The first of two places that there is.
 abbrev pub or_else : Lowest → Lowest → Lowest
-or_else (At place) other = At place
-or_else Nowhere other = other
+or_else (Some place) other = Some place
+or_else None other = other
 
 -- The fault of the first row of a table that has one: the lowest there is, as the rows of a table rise (`lowest_failing`).
 unfoldable pub rows_fault : List ℕ → ℕ → List Row → Lowest
 unfolding run_fault
-rows_fault header base [] = Nowhere
+rows_fault header base [] = None
 rows_fault header base (row ∷ rows) = or_else (row_fault header base row) (rows_fault header base rows)

@@ -8,7 +8,7 @@ ghost use Rattle.blocks.specs.Numbers.{Number, top};
 ghost use Rattle.rows.specs.Rows.{size_of, byte_run, each_run, group_run, Read, legal, breaks, place_of, run_fault, row_fault};
 
 // How many bytes a number has: 1, 2 or 4.
-#[derive(Clone, Copy)]
+#[derive(Debug, Clone, Copy, PartialEq, Eq)]
 pub enum Width {
     One,
     Two,
@@ -16,7 +16,7 @@ pub enum Width {
 }
 
 // What a number must be.
-#[derive(Clone, Copy)]
+#[derive(Debug, Clone, Copy, PartialEq, Eq)]
 pub enum Rule {
     // From the first to the second.
     From(u16, u16),
@@ -37,7 +37,7 @@ pub enum Rule {
 }
 
 // A row of a table: its offset, how many numbers where there are several, and what they must be.
-#[derive(Clone, Copy)]
+#[derive(Debug, Clone, Copy, PartialEq, Eq)]
 pub enum Row {
     // A byte that is this number.
     Only(u16, u16),
@@ -70,20 +70,13 @@ pub enum Row {
 }
 
 // A row as numbers under one rule: so many of a width from an offset on. Where `own` is set each is its own place, else the first.
-#[derive(Clone, Copy)]
+#[derive(Debug, Clone, Copy, PartialEq, Eq)]
 pub struct Run {
     pub at: u16,
     pub count: u16,
     pub width: Width,
     pub own: bool,
     pub rule: Rule,
-}
-
-// A figure of a row.
-fn figure(x: u16) -> usize
-    ensures { (result ≡ x) × (result < 65536) }
-{
-    x as usize
 }
 
 // How many values a number of a width can have.
@@ -100,10 +93,7 @@ fn values(width: Width) -> usize
 fn byte(header: &[u8], at: usize) -> usize
     ensures { (result ≡ bytes header.now at) × (result < 256) }
 {
-    if at < header.len() {
-        return blocks::wide(header[at]);
-    }
-    0
+    header.get(at).map_or(0, |&byte| usize::from(byte))
 }
 
 fn word(header: &[u8], at: usize) -> usize
@@ -132,41 +122,18 @@ fn number(header: &[u8], at: usize, width: Width) -> usize
 }
 
 // Whether a number of a header keeps a rule.
+#[tactic(auto, unfolding(crate::specs::Rows::legal))]
 fn is_legal(header: &[u8], base: usize, width: Width, rule: Rule, v: usize) -> bool
     requires { (base < 4294967296) × (v < 4294967296) }
     ensures { result ≡ legal header.now base (size_of width) rule v }
 {
     match rule {
-        Rule::From(low, high) => {
-            if v < figure(low) {
-                return false;
-            }
-            v <= figure(high)
-        }
-        Rule::Within(n) => {
-            let most = figure(n);
-            if v <= most {
-                return true;
-            }
-            values(width) <= v + most
-        }
-        Rule::OrOff(n) => {
-            if v <= figure(n) {
-                return true;
-            }
-            v == 255
-        }
-        Rule::OneOf(a, b, d) => {
-            if v == figure(a) {
-                return true;
-            }
-            if v == figure(b) {
-                return true;
-            }
-            v == figure(d)
-        }
-        Rule::AtMost(other) => v <= long(header, figure(other)),
-        Rule::Past(n) => v == base + figure(n),
+        Rule::From(low, high) => (usize::from(low)..=usize::from(high)).contains(&v),
+        Rule::Within(n) => v <= usize::from(n) || values(width) <= v + usize::from(n),
+        Rule::OrOff(n) => v <= usize::from(n) || v == 255,
+        Rule::OneOf(a, b, d) => v == usize::from(a) || v == usize::from(b) || v == usize::from(d),
+        Rule::AtMost(other) => v <= long(header, usize::from(other)),
+        Rule::Past(n) => v == base + usize::from(n),
         Rule::Akaii => names::is_akaii(v),
         Rule::Ascii => names::is_ascii(v),
     }
@@ -185,62 +152,49 @@ fn offset_of(width: Width, at: usize, j: usize) -> usize
 }
 
 // Whether number j of a run breaks the run's rule.
+#[tactic(auto, unfolding(crate::specs::Rows::keeps))]
 fn is_broken(header: &[u8], base: usize, run: Run, j: usize) -> bool
     requires { (base < 4294967296) × (j < 65536) }
     ensures { result ≡ breaks header.now base run j }
 {
-    let width = run.width;
-    let rule = run.rule;
-    let at = offset_of(width, figure(run.at), j);
-    let v = number(header, at, width);
-    if is_legal(header, base, width, rule, v) {
-        return false;
-    }
-    true
+    let at = offset_of(run.width, usize::from(run.at), j);
+    let v = number(header, at, run.width);
+    !is_legal(header, base, run.width, run.rule, v)
 }
 
 fn place_of(base: usize, run: Run, j: usize) -> usize
     requires { (base < 4294967296) × (j < 65536) }
     ensures { result ≡ place_of base run j }
 {
-    let at = figure(run.at);
-    if run.own {
-        return base + at + j;
-    }
-    base + at
+    let at = usize::from(run.at);
+    if run.own { base + at + j } else { base + at }
 }
 
 // The lowest place of a run where its rule is broken.
-fn run_fault(header: &[u8], base: usize, run: Run) -> laws::Lowest
+fn run_fault(header: &[u8], base: usize, run: Run) -> Option<usize>
     requires { base < 4294967296 }
     ensures { result ≡ run_fault header.now base run }
 {
-    let count = figure(run.count);
-    let mut j: usize = 0;
-    while j < count {
-        if is_broken(header, base, run, j) {
-            return laws::Lowest::At(place_of(base, run, j));
-        }
-        j += 1;
-    }
-    laws::Lowest::Nowhere
+    (0..usize::from(run.count))
+        .find(|&j| is_broken(header, base, run, j))
+        .map(|j| place_of(base, run, j))
 }
 
 // One byte, without a run: most rows are such.
-fn byte_fault(header: &[u8], base: usize, at: u16, rule: Rule) -> laws::Lowest
+fn byte_fault(header: &[u8], base: usize, at: u16, rule: Rule) -> Option<usize>
     requires { base < 4294967296 }
     ensures { result ≡ run_fault header.now base (byte_run at rule) }
 {
-    let place = figure(at);
-    let v = number(header, place, Width::One);
-    if is_legal(header, base, Width::One, rule, v) {
-        return laws::Lowest::Nowhere;
+    let place = usize::from(at);
+    if is_legal(header, base, Width::One, rule, byte(header, place)) {
+        None
+    } else {
+        Some(base + place)
     }
-    laws::Lowest::At(base + place)
 }
 
 // Bytes, each its own place.
-fn each_fault(header: &[u8], base: usize, at: u16, count: u16, rule: Rule) -> laws::Lowest
+fn each_fault(header: &[u8], base: usize, at: u16, count: u16, rule: Rule) -> Option<usize>
     requires { base < 4294967296 }
     ensures { result ≡ run_fault header.now base (each_run at count rule) }
 {
@@ -262,7 +216,7 @@ fn group_fault(
     count: u16,
     width: Width,
     rule: Rule,
-) -> laws::Lowest
+) -> Option<usize>
     requires { base < 4294967296 }
     ensures { result ≡ run_fault header.now base (group_run at count width rule) }
 {
@@ -277,7 +231,7 @@ fn group_fault(
 }
 
 // The lowest place where a header breaks a row.
-pub fn row_fault(header: &[u8], base: usize, row: Row) -> laws::Lowest
+pub fn row_fault(header: &[u8], base: usize, row: Row) -> Option<usize>
     requires { base < 4294967296 }
     ensures { result ≡ row_fault header.now base row }
 {

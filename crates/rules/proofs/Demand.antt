@@ -1,13 +1,12 @@
 -- Demand 3, one claim about calls made one after another on an accepted image: after each, all is the plain record's (`demand_3`).
 -- An accepted image meets the disk rules, a call keeps them and changes the files as the record does. Assumes nothing.
-use Rattle.std.specs.Prelude.{◌≡◌, Bool, true, false, ◌↔◌, ℕ, ◌+◌, ◌-◌, ◌≤◌, ◌<◌, min, ltb, eqb, length, drop}
+use Rattle.std.specs.Prelude.{◌≡◌, Bool, true, false, ◌↔◌, ℕ, ◌+◌, ◌-◌, ◌≤◌, ◌<◌, min, ltb, eqb, length, drop, Some, Err, Ok, None}
 use Rattle.std.proofs.Math.Path.{refl, ap, fun_ext}
 use Rattle.std.proofs.Common.{sym, ◌∙◌, true≢false, arith, lt-ltb, ltb-true}
 use mathlib.Core.List.{List, [], ◌∷◌, ◌++◌}
 use Rattle.std.proofs.Math.Option.{none, some}
 use Rattle.laws.specs.Lemmas.Truth.{true_both}
 use Rattle.laws.specs.Scan.{total}
-use Rattle.laws.specs.declared.Lowest.TheVariants.{At, Nowhere}
 use Rattle.laws.specs.Splice.{part}
 use Rattle.laws.specs.Reader.{bytes}
 use Rattle.layout.specs.declared.Kind.{Kind}
@@ -20,9 +19,7 @@ use Rattle.names.specs.Names.{legal_name, legal_type}
 use Rattle.map.specs.Map.{map_at, free_count}
 use Rattle.view.specs.Disk.{File, takes}
 use Rattle.image.specs.Image.{files_in, DiskRules}
-use Rattle.record.specs.Record.{shape_of, Files, Call, check, page, paged, put, remove, Answer, Turn, number_in, Outcome, refused, refuse_if, named, Removes, slot_of, empty_slot, judge_put, putting, step_files}
-use Rattle.record.specs.declared.Judged.{Judged}
-use Rattle.record.specs.declared.Judged.TheVariants.{Refuse, Grant}
+use Rattle.record.specs.Record.{shape_of, Files, Call, check, page, paged, put, remove, Answer, Turn, number_in, Outcome, refused, refuse_if, named, Removes, slot_of, empty_slot, judge_put, putting, step_files, Judged}
 use Rattle.record.proofs.Types.{named_exactly, slot_none}
 use Rattle.record.specs.Order.{room_for, order_room}
 use Rattle.record.specs.Lemmas.Update.{area_split, free_is}
@@ -32,10 +29,8 @@ use Rattle.record.proofs.Others as record-others
 use Rattle.record.specs.Download as record-download
 use Rattle.record.proofs.Download as record-download_proved
 use Rattle.record.specs.Download.{Pages, own, nothing, got, Asked, Spared, Joins, Answered}
-use Rattle.rules.specs.declared.Checked.{Checked}
-use Rattle.rules.specs.declared.Checked.TheVariants.{Accepted, Refused}
-use Rattle.rules.specs.Check.{check_of, answer_of, came, call_of, Made}
-use Rattle.rules.proofs.Accepted.{rules-accepted, accepted-rules, accepted_counts}
+use Rattle.rules.specs.Check.{check_of, answer_of, came, call_of, Made, Checked, accepting}
+use Rattle.rules.proofs.Accepts.{rules-accepted, accepted-rules, accepted_counts}
 use Rattle.rules.specs.Demand.{Ran, Kept, Behaves, slot_inside, some_slot}
 
 -- ---- one call
@@ -63,14 +58,14 @@ unfolding call_of step_files
 check_call img = go (check_of img) refl
   where
     go : (w : Checked) → check_of img ≡ w → (call_of img check).answer ≡ answer_of (check_of img)
-    go (Refused r) e = rw e refl
-    go (Accepted k d f n) e =
-        let r = accepted-rules k d f n img e in
-        let w = accepted_counts k d f n img e in
-        rw (e, free_is (layout_of k d) (layout_right k d) img r, w.0, w.1) refl
+    go (Err r) e = rw e refl
+    go (Ok disk) e =
+        let r = accepted-rules disk.kind disk.density disk.files disk.free img e in
+        let w = accepted_counts disk.kind disk.density disk.files disk.free img e in
+        rw (e, free_is (layout_of disk.kind disk.density) (layout_right disk.kind disk.density) img r, w.0, w.1) refl
 
 -- Pages are the file's bytes (demand 2): as many as the output holds and the file has left, and the end is reached ↔ none is left after them.
-pub page-bytes : (k : Kind) (d : Density) (f n : ℕ) (img : List ℕ) → check_of img ≡ Accepted k d f n → (slot : ℕ) (file : File) → files_in (layout_of k d) img slot ≡ some file
+pub page-bytes : (k : Kind) (d : Density) (f n : ℕ) (img : List ℕ) → check_of img ≡ accepting k d f n → (slot : ℕ) (file : File) → files_in (layout_of k d) img slot ≡ some file
     → (offset : ℕ) (out : List ℕ) → offset ≤ length file.content
     → let count = min (length out) (length file.content - offset) in
     call_of img (page slot offset out) ≡ came (paged count (eqb (offset + count) (length file.content))) (part file.content offset count ++ drop count out) img
@@ -84,7 +79,7 @@ page-bytes k d f n img e slot file there offset out h =
 
 -- The free blocks that the check gives are the zeros in the map's data area, and with every file's length rounded up to blocks they
 -- make the data area: 796, 1,595 or 1,583 blocks.
-pub free_blocks_is : (k : Kind) (d : Density) (f n : ℕ) (img : List ℕ) → check_of img ≡ Accepted k d f n
+pub free_blocks_is : (k : Kind) (d : Density) (f n : ℕ) (img : List ℕ) → check_of img ≡ accepting k d f n
     → (n ≡ free_count (layout_of k d) (map_at (bytes img))) × (n + total (λ s. takes (files_in (layout_of k d) img s)) 0 (layout_of k d).slots ≡ data_blocks (layout_of k d))
 free_blocks_is k d f n img e =
     let w = (accepted_counts k d f n img e).1 in
@@ -93,25 +88,25 @@ free_blocks_is k d f n img e =
 -- ---- room
 
 -- a put that is judged only by its room and its length answers 15 exactly for lack of room
-only_room : (img : List ℕ) (t u : Bool) (s : ℕ) → ((putting img (λ s. img) (refuse_if t 15 (refuse_if u 16 (Grant s)))).answer ≡ refused 15 0) ↔ (t ≡ true)
+only_room : (img : List ℕ) (t u : Bool) (s : ℕ) → ((putting img (λ s. img) (refuse_if t 15 (refuse_if u 16 (Ok s)))).answer ≡ refused 15 0) ↔ (t ≡ true)
 only_room img true u s = (λ e. refl, λ e. refl)
 only_room img false true s = (λ e. let z : ◌≡◌ {A = ℕ} 16 15 = ap (λ (x : Answer). number_in x.refusal) e in absurd (omega arith), λ e. absurd (true≢false (sym e)))
 only_room img false false s = (λ e. let z : ◌≡◌ {A = ℕ} 0 15 = ap (λ (x : Answer). number_in x.refusal) e in absurd (omega arith), λ e. absurd (true≢false (sym e)))
 
-module _ (k : Kind) (d : Density) (f n : ℕ) (img : List ℕ) (yes : check_of img ≡ Accepted k d f n) (name : List ℕ) (type : ℕ) (content : List ℕ) where
+module _ (k : Kind) (d : Density) (f n : ℕ) (img : List ℕ) (yes : check_of img ≡ accepting k d f n) (name : List ℕ) (type : ℕ) (content : List ℕ) where
   abbrev l : Layout
   l = layout_of k d
 
   abbrev files : Files
   files = files_in l img
 
-  no_slot : ((t : ℕ) (file : File) → files t ≡ some file → Removes l (remove name type) file → ⊥) → slot_of l files name type ≡ Nowhere
+  no_slot : ((t : ℕ) (file : File) → files t ≡ some file → Removes l (remove name type) file → ⊥) → slot_of l files name type ≡ None
   no_slot new =
       slot_none l files name type
       (λ s h. new s h.0 h.1 (name, type, refl, sym (ap (named l name type) h.1) ∙ (named_exactly l files name type s).1 h))
 
   -- such a put is judged by its room and its length
-  pub judged_room : legal_type l type ≡ true → legal_name l name ≡ true → slot_of l files name type ≡ Nowhere → (length content ≡ 0 → ⊥) → (s : ℕ) → empty_slot l files ≡ At s
+  pub judged_room : legal_type l type ≡ true → legal_name l name ≡ true → slot_of l files name type ≡ None → (length content ≡ 0 → ⊥) → (s : ℕ) → empty_slot l files ≡ Some s
       → judge_put l files name type content ≡ room_for n (length content) s
   judged_room type_legal name-legal new some_content s slot =
       order_room l files name type content (true_both (legal_name l name) (legal_type l type) name-legal type_legal) some_content new slot
@@ -119,8 +114,8 @@ module _ (k : Kind) (d : Density) (f n : ℕ) (img : List ℕ) (yes : check_of i
 
   pub put_answer : (j : Judged) → judge_put l files name type content ≡ j → (call_of img (put name type content)).answer ≡ (putting img (λ s. img) j).answer
   unfolding step_image step_files
-  put_answer (Refuse r) e = ap (λ (x : Outcome (List ℕ)). x.answer) (call_is k d img (put name type content) (accepted-rules k d f n img yes)) ∙ rw e refl
-  put_answer (Grant s) e = ap (λ (x : Outcome (List ℕ)). x.answer) (call_is k d img (put name type content) (accepted-rules k d f n img yes)) ∙ rw e refl
+  put_answer (Err r) e = ap (λ (x : Outcome (List ℕ)). x.answer) (call_is k d img (put name type content) (accepted-rules k d f n img yes)) ∙ rw e refl
+  put_answer (Ok s) e = ap (λ (x : Outcome (List ℕ)). x.answer) (call_is k d img (put name type content) (accepted-rules k d f n img yes)) ∙ rw e refl
 
   -- such a put is refused for room ↔ its blocks outnumber the free ones
   room : legal_type l type ≡ true → legal_name l name ≡ true → ((t : ℕ) (file : File) → files t ≡ some file → Removes l (remove name type) file → ⊥) → (length content ≡ 0 → ⊥)
@@ -190,5 +185,5 @@ module _ (k : Kind) (d : Density) where
 
 -- Demand 3: whatever calls are made on an accepted image, after each of them all is as claimed of the record, which begins as the files on the
 -- image and is fed the calls' arguments alone.
-pub demand_3 : (k : Kind) (d : Density) (f n : ℕ) (img : List ℕ) → check_of img ≡ Accepted k d f n → (ts : List Turn) → Ran img ts → Behaves k d img (files_in (layout_of k d) img) ts
+pub demand_3 : (k : Kind) (d : Density) (f n : ℕ) (img : List ℕ) → check_of img ≡ accepting k d f n → (ts : List Turn) → Ran img ts → Behaves k d img (files_in (layout_of k d) img) ts
 demand_3 k d f n img e ts ran = behaves k d ts img (files_in (layout_of k d) img) ran (accepted-rules k d f n img e) refl

@@ -1,6 +1,6 @@
 -- The check reads the length, byte 16, the directory in use and the map alone (`check_reads`); so the first 17,408 bytes and the length decide it.
 -- Readers that agree there show the same kind, entries and map values. Assumes nothing.
-use Rattle.std.specs.Prelude.{◌≡◌, Bool, List, ℕ, ◌+◌, ◌-◌, ◌≤◌, min, length, take}
+use Rattle.std.specs.Prelude.{◌≡◌, Bool, List, ℕ, ◌+◌, ◌-◌, ◌≤◌, min, length, take, Ok, Err}
 use Rattle.std.proofs.Math.Path.{refl, sym, ap}
 use Rattle.std.proofs.Common.{ap₂, ◌∙◌, inl, length-take, take-take, le-ltb}
 use Rattle.std.proofs.Math.Bool.{true, false}
@@ -22,11 +22,9 @@ use Rattle.map.specs.Map.{map_at, free_count}
 use Rattle.view.specs.Disk.{used}
 use Rattle.view.proofs.Lemmas.Head.{same-rules}
 use Rattle.image.specs.Image.{identity_at, view_of, InUse}
-use Rattle.rules.specs.declared.Known.{Known}
-use Rattle.rules.specs.declared.Known.TheVariants.{Disk, Unknown}
 use Rattle.rules.specs.Accepted.{second_over, density_is}
-use Rattle.rules.proofs.Accepted.{known_is}
-use Rattle.rules.specs.Check.{density_of, passed_over, has_identity, kind_of, known_head, known_start, used_count, check_as, check_head, check_of, check_start}
+use Rattle.rules.proofs.Accepts.{known_is}
+use Rattle.rules.specs.Check.{density_of, passed_over, has_identity, kind_of, known_head, known_start, used_count, check_as, check_head, check_of, check_start, Known}
 use Rattle.rules.specs.Lemmas.Steps.{known_length, known_kind_is, known_disk, head_unknown, head_known}
 use Rattle.rules.specs.Head.{Read, same_map, same-entry, read_head, head_agree}
 
@@ -96,10 +94,10 @@ module _ (b c : ℕ → ℕ) (n : ℕ) (first : c 16 ≡ b 16) (agree : (k : Kin
   same_check = go (known_head n b) refl
     where
       go : (x : Known) → known_head n b ≡ x → check_head n c ≡ check_head n b
-      go (Unknown r) e = head_unknown c n (same_known ∙ e) ∙ sym (head_unknown b n e)
-      go (Disk k d) e =
-          let w = known_is n b k d e in
-          head_known c n (same_known ∙ e) ∙ same_as b c d first (λ j i. agree j d i w.0) k w.1.in_use ∙ sym (head_known b n e)
+      go (Err r) e = head_unknown c n (same_known ∙ e) ∙ sym (head_unknown b n e)
+      go (Ok disk) e =
+          let w = known_is n b disk.kind disk.density e in
+          head_known c n (same_known ∙ e) ∙ same_as b c disk.density first (λ j i. agree j disk.density i w.0) disk.kind w.1.in_use ∙ sym (head_known b n e)
 
 -- The check reads the length, slot 0's type in the first directory, the directory in use and the map, and nothing else: images that agree in these get
 -- the same answer.

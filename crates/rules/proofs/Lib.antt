@@ -1,4 +1,4 @@
-pub mod Accepted
+pub mod Accepts
 pub mod Demand
 pub mod Exactly
 pub mod Head

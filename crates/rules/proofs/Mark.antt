@@ -14,15 +14,14 @@ use Rattle.map.specs.Values.{Other, chain-value, last_value}
 use Rattle.view.specs.Disk.{File, entry_chain}
 use Rattle.image.specs.Image.{view_of, files_in}
 use Rattle.record.specs.Record.{Call}
-use Rattle.rules.specs.declared.Checked.TheVariants.{Accepted}
-use Rattle.rules.specs.Check.{check_of, call_of}
-use Rattle.rules.proofs.Accepted.{accepted-rules}
+use Rattle.rules.specs.Check.{check_of, call_of, accepting}
+use Rattle.rules.proofs.Accepts.{accepted-rules}
 use Rattle.rules.specs.Demand.{file-used}
 use Rattle.rules.proofs.Demand.{rules-after}
 use Rattle.rules.specs.Mark.{last_block}
 
 -- After any call on an accepted image, the check and other calls that change nothing included, the last block of every file holds the end mark.
-pub ends_on_mark : (k : Kind) (d : Density) (f n : ℕ) (img : List ℕ) → check_of img ≡ Accepted k d f n → (c : Call) (slot : ℕ) (file : File)
+pub ends_on_mark : (k : Kind) (d : Density) (f n : ℕ) (img : List ℕ) → check_of img ≡ accepting k d f n → (c : Call) (slot : ℕ) (file : File)
     → let after = (call_of img c).state in files_in (layout_of k d) after slot ≡ some file → map_at (bytes after) (last_block (layout_of k d) after slot) ≡ (layout_of k d).mark
 unfolding entry_chain
 ends_on_mark k d f n img e c slot file there =
@@ -33,7 +32,7 @@ ends_on_mark k d f n img e c slot file there =
     last_value l (map_at (bytes after)) (links_for entry.size) entry.start (rules.valid.linked slot (file-used l after slot file there))
 
 -- A data block of an accepted image that holds neither a link nor the end mark is free.
-pub no_other-value : (k : Kind) (d : Density) (f n : ℕ) (img : List ℕ) → check_of img ≡ Accepted k d f n → (block : ℕ) → Data (layout_of k d) block
+pub no_other-value : (k : Kind) (d : Density) (f n : ℕ) (img : List ℕ) → check_of img ≡ accepting k d f n → (block : ℕ) → Data (layout_of k d) block
     → Other (layout_of k d) (map_at (bytes img) block) → map_at (bytes img) block ≡ 0
 unfolding entry_chain
 no_other-value k d f n img e block inside other = go (ℕ_discrete (map_at (bytes img) block) 0)

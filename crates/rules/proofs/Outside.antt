@@ -1,6 +1,6 @@
 -- Nothing else in the image changes (document 01, "Calls on an accepted disk"), call by call and on any bytes; so the volume label is kept.
 -- A refused image is kept whole, but that salvage mends it; on an accepted one it is the record's claim. Assumes nothing.
-use Rattle.std.specs.Prelude.{◌≡◌, refl, Bool, true, false, List, ◌⊎◌, ℕ, ◌+◌, ◌≤◌, ◌<◌, ltb, length}
+use Rattle.std.specs.Prelude.{◌≡◌, refl, Bool, true, false, List, ◌⊎◌, ℕ, ◌+◌, ◌≤◌, ◌<◌, ltb, length, Ok, Err}
 use Rattle.std.proofs.Common.{sym, ◌∙◌, inr, arith}
 use Rattle.laws.specs.declared.Refusal.{Refusal}
 use Rattle.laws.specs.Reader.{bytes}
@@ -20,27 +20,23 @@ use Rattle.record.specs.Step.{step_image}
 use Rattle.record.proofs.Lemmas.Step.{step}
 use Rattle.record.specs.Outside.{Changeable, system_fixed, reserved_fixed}
 use Rattle.record.proofs.Outside.{step_outside, touches_where, identity_fixed}
-use Rattle.rules.specs.declared.Checked.{Checked}
-use Rattle.rules.specs.declared.Checked.TheVariants.{Accepted, Refused}
-use Rattle.rules.specs.declared.Known.{Known}
-use Rattle.rules.specs.declared.Known.TheVariants.{Disk, Unknown}
-use Rattle.rules.specs.Check.{known_of, check_of, salvage_as, salvage_of, unaccepted, call_by, call_of}
+use Rattle.rules.specs.Check.{known_of, check_of, salvage_as, salvage_of, unaccepted, call_by, call_of, Checked, Known, accepting, known_as}
 use Rattle.rules.proofs.Salvage.{known_size}
-use Rattle.rules.proofs.Accepted.{accepted-rules}
+use Rattle.rules.proofs.Accepts.{accepted-rules}
 use Rattle.rules.specs.Outside.{Mends, TouchedBy}
 
 -- what the salvage run leaves is its image, or the one that was lent
-run_leaves : (P : List ℕ → Type 0) (img report : List ℕ) → P img → ((k : Kind) (d : Density) → known_of img ≡ Disk k d → P (salvage_image (layout_of k d) img)) → P (salvage_of img report).state
+run_leaves : (P : List ℕ → Type 0) (img report : List ℕ) → P img → ((k : Kind) (d : Density) → known_of img ≡ known_as k d → P (salvage_image (layout_of k d) img)) → P (salvage_of img report).state
 unfolding salvage_of salvage_as
 run_leaves P img report same mended = go (known_of img) refl
   where
-    by_room : (k : Kind) (d : Density) → known_of img ≡ Disk k d → (t : Bool) → ltb (length report) (layout_of k d).slots ≡ t → P (salvage_as (layout_of k d) img report).state
+    by_room : (k : Kind) (d : Density) → known_of img ≡ known_as k d → (t : Bool) → ltb (length report) (layout_of k d).slots ≡ t → P (salvage_as (layout_of k d) img report).state
     by_room k d e true h = rw h same
     by_room k d e false h = rw h (mended k d e)
 
     go : (x : Known) → known_of img ≡ x → P (salvage_of img report).state
-    go (Unknown r) e = rw e same
-    go (Disk k d) e = rw e (by_room k d e (ltb (length report) (layout_of k d).slots) refl)
+    go (Err r) e = rw e same
+    go (Ok disk) e = rw e (by_room disk.kind disk.density e (ltb (length report) (layout_of disk.kind disk.density).slots) refl)
 
 unaccepted_outside : (r : Refusal) (img : List ℕ) (c : Call) (i : ℕ) → (Mends img c i → ⊥) → bytes (unaccepted r img c).state i ≡ bytes img i
 unaccepted_outside r img check i out = refl
@@ -68,8 +64,8 @@ unfolding call_of step_image
 nothing_else img c i out = go (check_of img) out
   where
     go : (w : Checked) → (TouchedBy w img c i → ⊥) → bytes (call_by w img c).state i ≡ bytes img i
-    go (Refused r) out = unaccepted_outside r img c i out
-    go (Accepted k d files free) out = step_outside (layout_of k d) (layout_right k d) img i c out
+    go (Err r) out = unaccepted_outside r img c i out
+    go (Ok disk) out = step_outside (layout_of disk.kind disk.density) (layout_right disk.kind disk.density) img i c out
 
 -- Nor does the image grow or shrink.
 pub length_kept : (img : List ℕ) (c : Call) → length (call_of img c).state ≡ length img
@@ -77,13 +73,13 @@ unfolding call_of step_image
 length_kept img c = go (check_of img) refl
   where
     go : (w : Checked) → check_of img ≡ w → length (call_by w img c).state ≡ length img
-    go (Refused r) e = unaccepted-length r img c
-    go (Accepted k d f n) e =
-        let r = accepted-rules k d f n img e in (step (shape_of k d) (layout_right k d) img r c).rules.size ∙ sym r.size
+    go (Err r) e = unaccepted-length r img c
+    go (Ok disk) e =
+        let r = accepted-rules disk.kind disk.density disk.files disk.free img e in (step (shape_of disk.kind disk.density) (layout_right disk.kind disk.density) img r c).rules.size ∙ sym r.size
 
 -- ---- what every call keeps of an accepted image
 
-module _ (k : Kind) (d : Density) (f n : ℕ) (img : List ℕ) (e : check_of img ≡ Accepted k d f n) (c : Call) (i : ℕ) where
+module _ (k : Kind) (d : Density) (f n : ℕ) (img : List ℕ) (e : check_of img ≡ accepting k d f n) (c : Call) (i : ℕ) where
   abbrev l : Layout
   l = layout_of k d
 
@@ -104,6 +100,6 @@ module _ (k : Kind) (d : Density) (f n : ℕ) (img : List ℕ) (e : check_of img
   reserved_kept b h p = fixed (reserved_fixed l (layout_right k d) b i h p)
 
 -- The S1000 volume label, from the map's end to the first data block.
-pub label_kept : (d : Density) (f n : ℕ) (img : List ℕ) → check_of img ≡ Accepted S1000 d f n → (c : Call) (i : ℕ)
+pub label_kept : (d : Density) (f n : ℕ) (img : List ℕ) → check_of img ≡ accepting S1000 d f n → (c : Call) (i : ℕ)
     → map_offset (layout_of S1000 d).blocks ≤ i → i < block_offset (layout_of S1000 d).first → bytes (call_of img c).state i ≡ bytes img i
 label_kept d f n img e c i p q = system_kept S1000 d f n img e c i q (inr p) (inr (omega arith))

@@ -1,6 +1,6 @@
 -- Demand 1: a refused call changes nothing that was lent to it and answers its refusal alone, on any bytes.
 -- By the check's answer, then by the record's judgement of each call. Assumes nothing.
-use Rattle.std.specs.Prelude.{◌≡◌, refl, Bool, true, false, List, [], ◌⊎◌, ℕ, ◌<◌, ltb, length}
+use Rattle.std.specs.Prelude.{◌≡◌, refl, Bool, true, false, List, [], ◌⊎◌, ℕ, ◌<◌, ltb, length, Ok, Err}
 use Rattle.std.proofs.Common.{sym, ap, ◌∙◌, inl, inr, arith}
 use Rattle.std.proofs.Math.Option.{Option, none, some}
 use Rattle.layout.specs.declared.Kind.{Kind}
@@ -11,14 +11,9 @@ use Rattle.view.specs.Disk.{File}
 use Rattle.laws.specs.declared.Refusal.{Refusal}
 use Rattle.laws.specs.Refusals.{refusal_at}
 use Rattle.image.specs.Image.{files_in}
-use Rattle.record.specs.Record.{Shape, shape_of, Files, Call, check, list, find, page, put, remove, salvage, refused_by, judge_name, judge_put, file_at, listing, finding, paging, putting, removing, salvaging}
-use Rattle.record.specs.declared.Judged.{Judged}
-use Rattle.record.specs.declared.Judged.TheVariants.{Refuse, Grant}
+use Rattle.record.specs.Record.{Shape, shape_of, Files, Call, check, list, find, page, put, remove, salvage, refused_by, judge_name, judge_put, file_at, listing, finding, paging, putting, removing, salvaging, Judged}
 use Rattle.record.specs.Step.{after, step_image}
-use Rattle.rules.specs.declared.Checked.{Checked}
-use Rattle.rules.specs.declared.Checked.TheVariants.{Accepted, Refused}
-use Rattle.rules.specs.declared.Known.TheVariants.{Disk, Unknown}
-use Rattle.rules.specs.Check.{known_of, check_of, lent, came, salvage_of, unaccepted, call_of}
+use Rattle.rules.specs.Check.{known_of, check_of, lent, came, salvage_of, unaccepted, call_of, Checked, known_as}
 use Rattle.rules.specs.Salvage.{salvage_unknown, salvage_short}
 use Rattle.rules.proofs.Salvage.{salvage_refuses}
 
@@ -35,8 +30,8 @@ module _ (files : Files) (img : List ℕ) (r : Refusal) where
   list_refused (some f) e = no_refusal e
 
   find_refused : (j : Judged) → (finding files j).answer.refusal ≡ some r → came (finding files j).answer (finding files j).output img ≡ came (refused_by r) [] img
-  find_refused (Refuse q) e = same_refusal [] img q r e
-  find_refused (Grant s) e = no_refusal e
+  find_refused (Err q) e = same_refusal [] img q r e
+  find_refused (Ok s) e = no_refusal e
 
   page-refused : (w : Option File) (offset : ℕ) (out : List ℕ) → (paging files w offset out).answer.refusal ≡ some r
       → came (paging files w offset out).answer (paging files w offset out).output img ≡ came (refused_by r) out img
@@ -57,12 +52,12 @@ module _ (files : Files) (img : List ℕ) (r : Refusal) where
 
   module _ (next : ℕ → Files) (change : ℕ → List ℕ) where
     put_refused : (j : Judged) → (putting files next j).answer.refusal ≡ some r → came (putting files next j).answer (putting files next j).output (after img change j) ≡ came (refused_by r) [] img
-    put_refused (Refuse q) e = same_refusal [] img q r e
-    put_refused (Grant s) e = no_refusal e
+    put_refused (Err q) e = same_refusal [] img q r e
+    put_refused (Ok s) e = no_refusal e
 
     remove_refused : (j : Judged) → (removing files next j).answer.refusal ≡ some r → came (removing files next j).answer (removing files next j).output (after img change j) ≡ came (refused_by r) [] img
-    remove_refused (Refuse q) e = same_refusal [] img q r e
-    remove_refused (Grant s) e = no_refusal e
+    remove_refused (Err q) e = same_refusal [] img q r e
+    remove_refused (Ok s) e = no_refusal e
 
 step_refused : (shape : Shape) (img : List ℕ) (c : Call) (r : Refusal) → (step_image shape img c).answer.refusal ≡ some r → step_image shape img c ≡ came (refused_by r) (lent c) img
 unfolding step_image
@@ -79,7 +74,7 @@ step_refused shape img (salvage report) r e = salvage_refused (files_in shape.la
 run-refused : (img report : List ℕ) (r : Refusal) → (salvage_of img report).answer.refusal ≡ some r → salvage_of img report ≡ came (refused_by r) report img
 run-refused img report r e = go ((salvage_refuses img report r).0 e)
   where
-    go : (known_of img ≡ Unknown r) ⊎ ((k : Kind) × (d : Density) × (known_of img ≡ Disk k d) × (length report < (layout_of k d).slots) × (r ≡ refusal_at 21 0)) → salvage_of img report ≡ came (refused_by r) report img
+    go : (known_of img ≡ Err r) ⊎ ((k : Kind) × (d : Density) × (known_of img ≡ known_as k d) × (length report < (layout_of k d).slots) × (r ≡ refusal_at 21 0)) → salvage_of img report ≡ came (refused_by r) report img
     go (inl p) = salvage_unknown img report r p
     go (inr p) = salvage_short p.0 p.1 img p.2 report p.3 ∙ ap (λ (x : Refusal). came (refused_by x) report img) (sym p.4)
 
@@ -99,5 +94,5 @@ unfolding call_of
 unchanged img c r e = go (check_of img) refl
   where
     go : (w : Checked) → check_of img ≡ w → call_of img c ≡ came (refused_by r) (lent c) img
-    go (Refused q) h = rw h (unaccepted-refused q img c r (rw h at e))
-    go (Accepted k d files free) h = rw h (step_refused (shape_of k d) img c r (rw h at e))
+    go (Err q) h = rw h (unaccepted-refused q img c r (rw h at e))
+    go (Ok disk) h = rw h (step_refused (shape_of disk.kind disk.density) img c r (rw h at e))

@@ -1,6 +1,6 @@
 -- The salvage run on any bytes (document 02, request four): what it refuses, that what it leaves is accepted, that an accepted image comes back as it was, and
 -- that run again it changes nothing. By what is known of the image, then by the report's length. Assumes nothing.
-use Rattle.std.specs.Prelude.{◌≡◌, Bool, not, ◌↔◌, ◌⊎◌, ℕ, ◌≤◌, ◌<◌, eqb, length}
+use Rattle.std.specs.Prelude.{◌≡◌, Bool, not, ◌↔◌, ◌⊎◌, ℕ, ◌≤◌, ◌<◌, eqb, length, Ok, Err}
 use Rattle.std.proofs.Math.Path.{refl, ap}
 use Rattle.std.proofs.Common.{sym, ◌∙◌, inl, inr, arith}
 use Rattle.std.proofs.Math.Bool.{true, false}
@@ -27,18 +27,14 @@ use Rattle.salvage.proofs.Theorems.{salvage_rules, valid_said, valid_untouched, 
 use Rattle.record.specs.Record.{shape_of, salvage, valued, Outcome, is_empty, kept_report, salvaging}
 use Rattle.record.specs.Lemmas.Update.{empty_used}
 use Rattle.record.specs.Step.{step_image}
-use Rattle.rules.specs.declared.Checked.{Checked}
-use Rattle.rules.specs.declared.Checked.TheVariants.{Accepted, Refused}
-use Rattle.rules.specs.declared.Known.{Known}
-use Rattle.rules.specs.declared.Known.TheVariants.{Disk, Unknown}
-use Rattle.rules.specs.Check.{known_of, check_of, came, salvage_as, salvage_of, call_of}
+use Rattle.rules.specs.Check.{known_of, check_of, came, salvage_as, salvage_of, call_of, Checked, Known, accepting, known_as}
 use Rattle.rules.specs.Accepted.{accepted_as, length_of_is}
-use Rattle.rules.proofs.Accepted.{accepted-rules, rules-accepted, rules_known, known_is}
+use Rattle.rules.proofs.Accepts.{accepted-rules, rules-accepted, rules_known, known_is}
 use Rattle.rules.specs.Salvage.{salvage_unknown, salvage_short, salvage_done}
 
 -- ---- by what is known of the image
 
-module _ (k : Kind) (d : Density) (img : List ℕ) (known : known_of img ≡ Disk k d) where
+module _ (k : Kind) (d : Density) (img : List ℕ) (known : known_of img ≡ known_as k d) where
   abbrev l : Layout
   l = layout_of k d
 
@@ -104,7 +100,7 @@ module _ (k : Kind) (d : Density) (img : List ℕ) (rules : DiskRules (layout_of
       go false e = rw e refl
 
 -- An accepted image comes back as it was: 1 for its files, 0 for its empty slots, and no map value changed.
-pub salvage_same : (k : Kind) (d : Density) (f n : ℕ) (img : List ℕ) → check_of img ≡ Accepted k d f n → (report : List ℕ) → (layout_of k d).slots ≤ length report
+pub salvage_same : (k : Kind) (d : Density) (f n : ℕ) (img : List ℕ) → check_of img ≡ accepting k d f n → (report : List ℕ) → (layout_of k d).slots ≤ length report
     → salvage_of img report ≡ came (valued 0) (kept_report (layout_of k d) (files_in (layout_of k d) img) report) img
 salvage_same k d f n img e report h = run_is k d img (accepted-rules k d f n img e) report ∙ rw (le-ltb (length report) (layout_of k d).slots h) refl
 
@@ -114,24 +110,24 @@ unfolding call_of
 salvage_call_is img report = go (check_of img) refl
   where
     go : (w : Checked) → check_of img ≡ w → call_of img (salvage report) ≡ salvage_of img report
-    go (Refused r) e = rw e refl
-    go (Accepted k d f n) e =
-        let rules = accepted-rules k d f n img e in
-        rw e (step_is k d img rules report ∙ sym (run_is k d img rules report))
+    go (Err r) e = rw e refl
+    go (Ok disk) e =
+        let rules = accepted-rules disk.kind disk.density disk.files disk.free img e in
+        rw e (step_is disk.kind disk.density img rules report ∙ sym (run_is disk.kind disk.density img rules report))
 
 -- ---- what it refuses
 
 -- 1 or 2 where the image isn't known, 21 where it is and the report is too short; nothing else.
 pub salvage_refuses : (img report : List ℕ) (r : Refusal)
     → ((salvage_of img report).answer.refusal ≡ some r)
-    ↔ ((known_of img ≡ Unknown r) ⊎ ((k : Kind) × (d : Density) × (known_of img ≡ Disk k d) × (length report < (layout_of k d).slots) × (r ≡ refusal_at 21 0)))
+    ↔ ((known_of img ≡ Err r) ⊎ ((k : Kind) × (d : Density) × (known_of img ≡ known_as k d) × (length report < (layout_of k d).slots) × (r ≡ refusal_at 21 0)))
 salvage_refuses img report r = (by_known (known_of img) refl, due)
   where
     same_refusal : {q : Refusal} → some q ≡ some r → q ≡ r
     same_refusal e = cc
 
-    short : (k : Kind) (d : Density) → known_of img ≡ Disk k d → (t : Bool) → ltb (length report) (layout_of k d).slots ≡ t → (salvage_of img report).answer.refusal ≡ some r
-        → (known_of img ≡ Unknown r) ⊎ ((k : Kind) × (d : Density) × (known_of img ≡ Disk k d) × (length report < (layout_of k d).slots) × (r ≡ refusal_at 21 0))
+    short : (k : Kind) (d : Density) → known_of img ≡ known_as k d → (t : Bool) → ltb (length report) (layout_of k d).slots ≡ t → (salvage_of img report).answer.refusal ≡ some r
+        → (known_of img ≡ Err r) ⊎ ((k : Kind) × (d : Density) × (known_of img ≡ known_as k d) × (length report < (layout_of k d).slots) × (r ≡ refusal_at 21 0))
     short k d p true t e =
         let h = ltb-true (length report) (layout_of k d).slots t in
         inr (k, d, p, h, sym (same_refusal (sym (ap (λ (o : Outcome (List ℕ)). o.answer.refusal) (salvage_short k d img p report h)) ∙ e)))
@@ -141,12 +137,12 @@ salvage_refuses img report r = (by_known (known_of img) refl, due)
         absurd (let o : ◌≡◌ {A = ℕ} 0 1 = cc in omega arith)
 
     by_known : (x : Known) → known_of img ≡ x → (salvage_of img report).answer.refusal ≡ some r
-        → (known_of img ≡ Unknown r) ⊎ ((k : Kind) × (d : Density) × (known_of img ≡ Disk k d) × (length report < (layout_of k d).slots) × (r ≡ refusal_at 21 0))
-    by_known (Unknown q) p e =
-        inl (p ∙ ap Unknown (same_refusal (sym (ap (λ (o : Outcome (List ℕ)). o.answer.refusal) (salvage_unknown img report q p)) ∙ e)))
-    by_known (Disk k d) p e = short k d p (ltb (length report) (layout_of k d).slots) refl e
+        → (known_of img ≡ Err r) ⊎ ((k : Kind) × (d : Density) × (known_of img ≡ known_as k d) × (length report < (layout_of k d).slots) × (r ≡ refusal_at 21 0))
+    by_known (Err q) p e =
+        inl (p ∙ ap Err (same_refusal (sym (ap (λ (o : Outcome (List ℕ)). o.answer.refusal) (salvage_unknown img report q p)) ∙ e)))
+    by_known (Ok disk) p e = short disk.kind disk.density p (ltb (length report) (layout_of disk.kind disk.density).slots) refl e
 
-    due : ((known_of img ≡ Unknown r) ⊎ ((k : Kind) × (d : Density) × (known_of img ≡ Disk k d) × (length report < (layout_of k d).slots) × (r ≡ refusal_at 21 0)))
+    due : ((known_of img ≡ Err r) ⊎ ((k : Kind) × (d : Density) × (known_of img ≡ known_as k d) × (length report < (layout_of k d).slots) × (r ≡ refusal_at 21 0)))
         → (salvage_of img report).answer.refusal ≡ some r
     due (inl p) = ap (λ (o : Outcome (List ℕ)). o.answer.refusal) (salvage_unknown img report r p)
     due (inr p) = ap (λ (o : Outcome (List ℕ)). o.answer.refusal) (salvage_short p.0 p.1 img p.2 report p.3) ∙ ap some (sym p.4)

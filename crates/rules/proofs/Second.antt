@@ -1,7 +1,7 @@
 -- Disks that use the second directory (document 02, request five): what they are known by, what put writes to a slot, and what remove leaves of it.
 -- The kind is known by slot 0's type and the density alone; put and remove by what they do to the entry. Assumes nothing.
 use Rattle.std.proofs.Math.Path.{◌≡◌, ap}
-use Rattle.std.specs.Prelude.{refl, List, ◌↔◌, ℕ, ◌≤◌, length, replicate}
+use Rattle.std.specs.Prelude.{refl, List, ◌↔◌, ℕ, ◌≤◌, length, replicate, Ok, Err}
 use Rattle.std.proofs.Common.{sym, ◌∙◌, true≢false, arith, le-ltb}
 use Rattle.std.proofs.Math.Option.{none, some}
 use Rattle.laws.specs.Refusals.{refusal_at}
@@ -20,17 +20,13 @@ use Rattle.view.specs.Lemmas.Formed.{formed-parts}
 use Rattle.view.specs.Lemmas.Kept.{owned_data}
 use Rattle.image.specs.Image.{view_of, files_in, PassedOver, OfKind, DiskRules, new_entry}
 use Rattle.image.specs.Lemmas.Effect.{remove_entry}
-use Rattle.record.specs.declared.Judged.{Judged}
-use Rattle.record.specs.declared.Judged.TheVariants.{Refuse, Grant}
-use Rattle.record.specs.Record.{shape_of, list, put, remove, Answer, Outcome, refused, valued, file_at, judge_put, step_files}
+use Rattle.record.specs.Record.{shape_of, list, put, remove, Answer, Outcome, refused, valued, file_at, judge_put, step_files, Judged}
 use Rattle.record.specs.Order.{order_unlisted}
 use Rattle.record.specs.Step.{image_after, step_image}
 use Rattle.record.proofs.Lemmas.Update.{put_effect}
-use Rattle.rules.specs.declared.Checked.TheVariants.{Accepted, Refused}
-use Rattle.rules.specs.declared.Known.TheVariants.{Disk}
-use Rattle.rules.specs.Check.{known_of, check_of, call_of}
+use Rattle.rules.specs.Check.{known_of, check_of, call_of, accepting, known_as}
 use Rattle.rules.specs.Accepted.{length_of_is}
-use Rattle.rules.proofs.Accepted.{known_is, is_known, accepted-rules}
+use Rattle.rules.proofs.Accepts.{known_is, is_known, accepted-rules}
 use Rattle.rules.specs.Exactly.{no_kind}
 use Rattle.rules.proofs.Exactly.{refused_exactly}
 use Rattle.rules.specs.Demand.{file-used}
@@ -39,19 +35,19 @@ use Rattle.rules.proofs.Spelling.{removed}
 
 -- ---- the kind
 
-pub s3000_known : (img : List ℕ) → (known_of img ≡ Disk S3000 High) ↔ ((length img ≡ length_of High) × PassedOver (bytes img))
+pub s3000_known : (img : List ℕ) → (known_of img ≡ known_as S3000 High) ↔ ((length img ≡ length_of High) × PassedOver (bytes img))
 s3000_known img = (told, known)
   where
-    told : known_of img ≡ Disk S3000 High → (length img ≡ length_of High) × PassedOver (bytes img)
+    told : known_of img ≡ known_as S3000 High → (length img ≡ length_of High) × PassedOver (bytes img)
     told e = let w = known_is (length img) (bytes img) S3000 High e in (w.0, w.1.in_use.passed_over_is.1 refl)
 
-    known : (length img ≡ length_of High) × PassedOver (bytes img) → known_of img ≡ Disk S3000 High
+    known : (length img ≡ length_of High) × PassedOver (bytes img) → known_of img ≡ known_as S3000 High
     known p =
         is_known (length img) (bytes img) S3000 High p.0
         (record { in_use = record { passed_over_is = (λ q. refl, λ q. p.1); dense = λ q. refl }; identified = λ e. absurd (true≢false e) })
 
 -- at low density it is refused, whatever the identities
-pub passed_over-low : (img : List ℕ) → length img ≡ length_of Low → PassedOver (bytes img) → check_of img ≡ Refused (refusal_at 2 0)
+pub passed_over-low : (img : List ℕ) → length img ≡ length_of Low → PassedOver (bytes img) → check_of img ≡ Err (refusal_at 2 0)
 passed_over-low img n p = (refused_exactly img (refusal_at 2 0)).1 (no_kind Low n none_so)
   where
     none_so : (k : Kind) → OfKind (layout_of k Low) (bytes img) → ⊥
@@ -59,7 +55,7 @@ passed_over-low img n p = (refused_exactly img (refusal_at 2 0)).1 (no_kind Low 
 
 -- ---- a slot after put and after remove
 
-module _ (k : Kind) (d : Density) (f n : ℕ) (img : List ℕ) (accept : check_of img ≡ Accepted k d f n) where
+module _ (k : Kind) (d : Density) (f n : ℕ) (img : List ℕ) (accept : check_of img ≡ accepting k d f n) where
   abbrev l : Layout
   l = layout_of k d
 
@@ -70,8 +66,8 @@ module _ (k : Kind) (d : Density) (f n : ℕ) (img : List ℕ) (accept : check_o
       → (step_image (shape_of k d) img (put name type content)).answer ≡ valued s
       → (view_of l (bytes (step_image (shape_of k d) img (put name type content)).state)).entry s ≡ new_entry l (map_at (bytes img)) name type content
   unfolding step_image image_after step_files
-  written_by_is name type content s (Refuse r) e a = let z : some r ≡ none = ap (λ (x : Answer). x.refusal) (rw e at a) in absurd (let o : ◌≡◌ {A = ℕ} 0 1 = cc in omega arith)
-  written_by_is name type content s (Grant t) e a =
+  written_by_is name type content s (Err r) e a = let z : some r ≡ none = ap (λ (x : Answer). x.refusal) (rw e at a) in absurd (let o : ◌≡◌ {A = ℕ} 0 1 = cc in omega arith)
+  written_by_is name type content s (Ok t) e a =
       let z : t ≡ s = ap (λ (x : Answer). x.value) (rw e at a) in
       rw (e, ← z) (put_effect l (layout_right k d) img rules name type content t e).made
 

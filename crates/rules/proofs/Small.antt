@@ -2,15 +2,13 @@
 -- The refusals are written out, places and slots lie on the disk, and a file is no longer than the data area. Assumes nothing.
 use Rattle.std.proofs.Math.Path.{◌≡◌, refl}
 use Rattle.std.proofs.Common.{ap, inl, inr, arith, ltb-true}
-use Rattle.std.specs.Prelude.{Bool, not, List, [], ◌⊎◌, ℕ, ◌+◌, ◌≤◌, ◌<◌, eqb, length}
+use Rattle.std.specs.Prelude.{Bool, not, List, [], ◌⊎◌, ℕ, ◌+◌, ◌≤◌, ◌<◌, eqb, length, Ok, None, Some, Err}
 use Rattle.std.proofs.Math.Bool.{true, false}
 use Rattle.std.proofs.Math.Option.{Option, none, some}
 use Rattle.std.proofs.Math.Dec.{ltb}
 use Rattle.laws.specs.Reader.{bytes}
-use Rattle.laws.specs.Scan.{lowest}
+use Rattle.laws.specs.Scan.{lowest, Lowest}
 use Rattle.laws.specs.Lemmas.Scan.{at→, count_split, total-has}
-use Rattle.laws.specs.declared.Lowest.{Lowest}
-use Rattle.laws.specs.declared.Lowest.TheVariants.{At, Nowhere}
 use Rattle.layout.specs.declared.Kind.{Kind}
 use Rattle.layout.specs.declared.Density.{Density}
 use Rattle.layout.specs.declared.Layout.{Layout}
@@ -20,96 +18,94 @@ use Rattle.layout.proofs.Right.{layout_right}
 use Rattle.blocks.specs.Blocks.{blocks_for, links_for}
 use Rattle.map.specs.Map.{Astray, Miscounted}
 use Rattle.laws.specs.declared.Refusal.{Refusal}
-use Rattle.laws.specs.Refusals.{refusal_at}
+use Rattle.laws.specs.Refusals.{refusal_at, number_of, place_of}
 use Rattle.view.specs.Disk.{View, File, takes}
 use Rattle.view.specs.Broken.{Rule, system, legal, single, linked, apart, owner, Breaks}
 use Rattle.image.specs.Image.{view_of, files_in, DiskRules}
 use Rattle.salvage.specs.Salvage.{salvage_image, map_changes}
 use Rattle.salvage.specs.Theorems.{changes_few}
-use Rattle.record.specs.Record.{shape_of, Files, Call, check, list, find, page, put, remove, salvage, refused_by, refused, gives, refuse_if, refuse_at, or_refuse, replaced, is_legal, slot_of, empty_slot, is_empty, named, kept_file, file_count, free, judge_name, judge_put, file_at, listing, finding, putting, removing, paging, salvaging, step_files}
-use Rattle.record.specs.declared.Judged.{Judged}
-use Rattle.record.specs.declared.Judged.TheVariants.{Refuse, Grant}
+use Rattle.record.specs.Record.{shape_of, Files, Call, check, list, find, page, put, remove, salvage, refused_by, refused, gives, refuse_if, refuse_at, or_refuse, replaced, is_legal, slot_of, empty_slot, is_empty, named, kept_file, file_count, free, judge_name, judge_put, file_at, listing, finding, putting, removing, paging, salvaging, step_files, Judged}
 use Rattle.record.specs.Lemmas.Update.{area_split}
 use Rattle.record.specs.Step.{step_image}
-use Rattle.rules.specs.declared.Checked.{Checked}
-use Rattle.rules.specs.declared.Checked.TheVariants.{Accepted, Refused}
-use Rattle.rules.specs.declared.Known.{Known}
-use Rattle.rules.specs.declared.Known.TheVariants.{Disk, Unknown}
-use Rattle.rules.specs.Check.{known_of, check_of, salvage_as, salvage_of, unaccepted, call_by, call_of}
+use Rattle.rules.specs.Check.{known_of, check_of, salvage_as, salvage_of, unaccepted, call_by, call_of, Checked, Known}
 use Rattle.rules.specs.Exactly.{Owed, no_density, no_kind, by_rule}
 use Rattle.rules.proofs.Exactly.{unknown_owed, refused_exactly}
-use Rattle.rules.proofs.Accepted.{accepted-rules}
+use Rattle.rules.proofs.Accepts.{accepted-rules}
 use Rattle.rules.specs.Small.{Small, Numbered, AllSmall}
+use Rattle.laws.specs.Lemmas.Refusals.{numbered, place_most}
 
-lowest_small : (f : ℕ → Bool) (i n p : ℕ) → i + n ≤ 16777216 → lowest f i n ≡ At p → Small p
+lowest_small : (f : ℕ → Bool) (i n p : ℕ) → i + n ≤ 16777216 → lowest f i n ≡ Some p → Small p
 lowest_small f i n p h e = let w = at→ f i n p e in let q : p < i + n = w.1 in omega arith
 
 -- ---- the check
 
+-- every refusal is one of the table, so that its place alone is asked for
+of_place : (r : Refusal) → Small (place_of r) → Numbered r
+of_place r h = let n = numbered r in record { some = n.0; most = n.1; place = h }
+
+no_place : (n : ℕ) → Numbered (refusal_at n 0)
+no_place n = of_place (refusal_at n 0) (omega (arith, place_most n 0))
+
 slots_small : (l : Layout) → LayoutRight l → l.slots < 1000000
 slots_small l right = omega (arith, right.directory_low, right.data_some, right.blocks_most)
 
-due_small : (l : Layout) → LayoutRight l → (v : View) (r : Refusal) (rule : Rule) → Breaks l v rule r.number r.place → Numbered r
-due_small l right v r system b = record { some = omega (arith, b.0); most = omega (arith, b.0); place = omega (arith, b.1, right.system_low, right.data_some, right.blocks_most) }
-due_small l right v r legal b = record { some = omega (arith, b.0); most = omega (arith, b.0); place = omega (arith, b.1.0, slots_small l right) }
-due_small l right v r single b = record { some = omega (arith, b.0); most = omega (arith, b.0); place = omega (arith, b.1.0, slots_small l right) }
+due_small : (l : Layout) → LayoutRight l → (v : View) (r : Refusal) (rule : Rule) → Breaks l v rule (number_of r) (place_of r) → Numbered r
+due_small l right v r system b = of_place r (omega (arith, b.1, right.system_low, right.data_some, right.blocks_most))
+due_small l right v r legal b = of_place r (omega (arith, b.1.0, slots_small l right))
+due_small l right v r single b = of_place r (omega (arith, b.1.0, slots_small l right))
 due_small l right v r linked b = chain b.1
   where
-    chain : ((r.number ≡ 6) × Astray l v.map (links_for (v.entry r.place).size) (v.entry r.place).start) ⊎ ((r.number ≡ 7) × Miscounted l v.map (links_for (v.entry r.place).size) (v.entry r.place).start) → Numbered r
-    chain (inl a) = record { some = omega (arith, a.0); most = omega (arith, a.0); place = omega (arith, b.0.0, slots_small l right) }
-    chain (inr c) = record { some = omega (arith, c.0); most = omega (arith, c.0); place = omega (arith, b.0.0, slots_small l right) }
-due_small l right v r apart b = record { some = omega (arith, b.0); most = omega (arith, b.0); place = omega (arith, b.1.2.1.0.0, slots_small l right) }
-due_small l right v r owner b = record { some = omega (arith, b.0); most = omega (arith, b.0); place = omega (arith, b.1.1, right.blocks_most) }
+    chain : (((number_of r) ≡ 6) × Astray l v.map (links_for (v.entry (place_of r)).size) (v.entry (place_of r)).start) ⊎ (((number_of r) ≡ 7) × Miscounted l v.map (links_for (v.entry (place_of r)).size) (v.entry (place_of r)).start) → Numbered r
+    chain (inl a) = of_place r (omega (arith, b.0.0, slots_small l right))
+    chain (inr c) = of_place r (omega (arith, b.0.0, slots_small l right))
+due_small l right v r apart b = of_place r (omega (arith, b.1.2.1.0.0, slots_small l right))
+due_small l right v r owner b = of_place r (omega (arith, b.1.1, right.blocks_most))
 
 check_small : (img : List ℕ) (r : Refusal) → Owed img r → Numbered r
-check_small img r (no_density n) = record { some = omega arith; most = omega arith; place = omega arith }
-check_small img r (no_kind d e n) = record { some = omega arith; most = omega arith; place = omega arith }
+check_small img r (no_density n) = no_place 1
+check_small img r (no_kind d e n) = no_place 2
 check_small img r (by_rule k d e i due) = due_small (layout_of k d) (layout_right k d) (view_of (layout_of k d) (bytes img)) r due.rule due.broken
 
 -- ---- a call's judgement
 
 abbrev SmallJudged : Judged → Type 0
-SmallJudged (Refuse r) = Numbered r
-SmallJudged (Grant slot) = Small slot
+SmallJudged (Err r) = Numbered r
+SmallJudged (Ok slot) = Small slot
 
--- a number of the table
-abbrev Listed : ℕ → Type 0
-Listed n = (1 ≤ n) × (n ≤ 21)
+if_small : (t : Bool) (n : ℕ) (next : Judged) → SmallJudged next → SmallJudged (refuse_if t n next)
+if_small true n next r = no_place n
+if_small false n next r = r
 
-if_small : (t : Bool) (n : ℕ) (next : Judged) → Listed n → SmallJudged next → SmallJudged (refuse_if t n next)
-if_small true n next h r = record { some = h.0; most = h.1; place = omega arith }
-if_small false n next h r = r
+at_small : (n : ℕ) (w : Lowest) (next : Judged) → ((p : ℕ) → w ≡ Some p → Small p) → SmallJudged next → SmallJudged (refuse_at n w next)
+at_small n (Some p) next k r = of_place (refusal_at n p) (let h = k p refl in omega (arith, place_most n p))
+at_small n None next k r = r
 
-at_small : (n : ℕ) (w : Lowest) (next : Judged) → Listed n → ((p : ℕ) → w ≡ At p → Small p) → SmallJudged next → SmallJudged (refuse_at n w next)
-at_small n (At p) next h k r = record { some = h.0; most = h.1; place = k p refl }
-at_small n Nowhere next h k r = r
-
-else_small : (n : ℕ) (w : Lowest) (next : ℕ → Judged) → Listed n → ((p : ℕ) → w ≡ At p → SmallJudged (next p)) → SmallJudged (or_refuse n w next)
-else_small n (At p) next h r = r p refl
-else_small n Nowhere next h r = record { some = h.0; most = h.1; place = omega arith }
+else_small : (n : ℕ) (w : Lowest) (next : ℕ → Judged) → ((p : ℕ) → w ≡ Some p → SmallJudged (next p)) → SmallJudged (or_refuse n w next)
+else_small n (Some p) next r = r p refl
+else_small n None next r = no_place n
 
 module _ (l : Layout) (right : LayoutRight l) (files : Files) (name : List ℕ) (type : ℕ) where
-  slot_small : (p : ℕ) → slot_of l files name type ≡ At p → Small p
+  slot_small : (p : ℕ) → slot_of l files name type ≡ Some p → Small p
   unfolding slot_of
   slot_small p = lowest_small (λ s. named l name type (files s)) 0 l.slots p (let h = slots_small l right in omega arith)
 
-  empty_small : (p : ℕ) → empty_slot l files ≡ At p → Small p
+  empty_small : (p : ℕ) → empty_slot l files ≡ Some p → Small p
   unfolding empty_slot
   empty_small p = lowest_small (λ s. is_empty (files s)) 0 l.slots p (let h = slots_small l right in omega arith)
 
   name_small : SmallJudged (judge_name l files name type)
   unfolding judge_name
-  name_small = if_small (not (is_legal l name type)) 11 _ (omega arith) (else_small 10 (slot_of l files name type) (λ s. Grant s) (omega arith) slot_small)
+  name_small = if_small (not (is_legal l name type)) 11 _ (else_small 10 (slot_of l files name type) (λ s. Ok s) slot_small)
 
   put_small : (content : List ℕ) → SmallJudged (judge_put l files name type content)
   unfolding judge_put
   put_small content =
-      if_small (not (is_legal l name type)) 11 _ (omega arith)
-      (if_small (eqb (length content) 0) 13 _ (omega arith)
-      (at_small 12 (slot_of l files name type) _ (omega arith) slot_small
-      (else_small 14 (empty_slot l files) _ (omega arith) (λ p e.
-      if_small (ltb (free l files) (blocks_for (length content))) 15 _ (omega arith)
-      (if_small (ltb 16777215 (length content)) 16 (Grant p) (omega arith)
+      if_small (not (is_legal l name type)) 11 _
+      (if_small (eqb (length content) 0) 13 _
+      (at_small 12 (slot_of l files name type) _ slot_small
+      (else_small 14 (empty_slot l files) _ (λ p e.
+      if_small (ltb (free l files) (blocks_for (length content))) 15 _
+      (if_small (ltb 16777215 (length content)) 16 (Ok p)
       (empty_small p e))))))
 
 -- ---- a file on an accepted image
@@ -141,10 +137,10 @@ gives_small : (n : ℕ) (name : List ℕ) (type : ℕ) (end : Bool) → Small n 
 gives_small n name type end h = record { refusal = tt; value = h; free = omega arith }
 
 no_file : AllSmall (refused 10 0)
-no_file = refused_small (refusal_at 10 0) (record { some = omega arith; most = omega arith; place = omega arith })
+no_file = refused_small (refusal_at 10 0) (no_place 10)
 
 no_room_is : AllSmall (refused 21 0)
-no_room_is = refused_small (refusal_at 21 0) (record { some = omega arith; most = omega arith; place = omega arith })
+no_room_is = refused_small (refusal_at 21 0) (no_place 21)
 
 module _ (files : Files) where
   listing_small : (w : Option File) → ((f : File) → w ≡ some f → Small (length f.content)) → AllSmall (listing files w).answer
@@ -152,23 +148,23 @@ module _ (files : Files) where
   listing_small (some f) h = gives_small (length f.content) f.name f.type false (h f refl)
 
   finding_small : (j : Judged) → SmallJudged j → AllSmall (finding files j).answer
-  finding_small (Refuse r) h = refused_small r h
-  finding_small (Grant s) h = gives_small s [] 0 false h
+  finding_small (Err r) h = refused_small r h
+  finding_small (Ok s) h = gives_small s [] 0 false h
 
   putting_small : (after : ℕ → Files) (j : Judged) → SmallJudged j → AllSmall (putting files after j).answer
-  putting_small after (Refuse r) h = refused_small r h
-  putting_small after (Grant s) h = gives_small s [] 0 false h
+  putting_small after (Err r) h = refused_small r h
+  putting_small after (Ok s) h = gives_small s [] 0 false h
 
   removing_small : (after : ℕ → Files) (j : Judged) → SmallJudged j → AllSmall (removing files after j).answer
-  removing_small after (Refuse r) h = refused_small r h
-  removing_small after (Grant s) h = gives_small 0 [] 0 false (omega arith)
+  removing_small after (Err r) h = refused_small r h
+  removing_small after (Ok s) h = gives_small 0 [] 0 false (omega arith)
 
   paging_small : (w : Option File) (offset : ℕ) (out : List ℕ) → ((f : File) → w ≡ some f → Small (length f.content)) → AllSmall (paging files w offset out).answer
   paging_small none offset out h = no_file
   paging_small (some f) offset out h = go (ltb (length f.content) offset) refl
     where
       go : (t : Bool) → ltb (length f.content) offset ≡ t → AllSmall (paging files (some f) offset out).answer
-      go true e = rw e (refused_small (refusal_at 17 0) (record { some = omega arith; most = omega arith; place = omega arith }))
+      go true e = rw e (refused_small (refusal_at 17 0) (no_place 17))
       go false e = rw e (let k = h f refl in gives_small _ [] 0 _ (omega arith))
 
   salvaging_small : (l : Layout) (report : List ℕ) → AllSmall (salvaging files l files report).answer
@@ -216,8 +212,8 @@ run_small img report = go (known_of img) refl
         rw h (gives_small (map_changes l img (salvage_image l img)) [] 0 false (omega (arith, changes_few l img (salvage_image l img), (layout_right k d).blocks_most)))
 
     go : (x : Known) → known_of img ≡ x → AllSmall (salvage_of img report).answer
-    go (Unknown r) e = rw e (refused_small r (check_small img r (unknown_owed img r e)))
-    go (Disk k d) e = rw e (by_room k d (ltb (length report) (layout_of k d).slots) refl)
+    go (Err r) e = rw e (refused_small r (check_small img r (unknown_owed img r e)))
+    go (Ok disk) e = rw e (by_room disk.kind disk.density (ltb (length report) (layout_of disk.kind disk.density).slots) refl)
 
 unaccepted_small : (r : Refusal) (img : List ℕ) (c : Call) → Numbered r → AllSmall (unaccepted r img c).answer
 unaccepted_small r img check h = refused_small r h
@@ -234,8 +230,8 @@ unfolding call_of step_image
 call_small img c = go (check_of img) refl
   where
     go : (w : Checked) → check_of img ≡ w → AllSmall (call_by w img c).answer
-    go (Accepted k d f n) e = step_small k d img (accepted-rules k d f n img e) c
-    go (Refused r) e = unaccepted_small r img c (check_small img r ((refused_exactly img r).0 e))
+    go (Ok disk) e = step_small disk.kind disk.density img (accepted-rules disk.kind disk.density disk.files disk.free img e) c
+    go (Err r) e = unaccepted_small r img c (check_small img r ((refused_exactly img r).0 e))
 
 -- No refusal has number 0.
 pub refusal_numbered : (img : List ℕ) (c : Call) (r : Refusal) → (call_of img c).answer.refusal ≡ some r → Numbered r

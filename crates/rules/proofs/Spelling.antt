@@ -3,11 +3,10 @@
 -- slot. Assumes nothing.
 use Rattle.std.proofs.Math.Path.{◌≡◌, refl, sym, ap}
 use Rattle.std.proofs.Common.{◌∙◌, arith}
-use Rattle.std.specs.Prelude.{true, List, [], ℕ, length}
+use Rattle.std.specs.Prelude.{true, List, [], ℕ, length, Ok, Some, Err}
 use Rattle.std.proofs.Math.Option.{Option, none, some}
 use borrow.Author.Tests.{eq-eqb}
 use Rattle.laws.specs.Lemmas.Truth.{true_both}
-use Rattle.laws.specs.declared.Lowest.TheVariants.{At}
 use Rattle.laws.specs.Reader.{bytes}
 use Rattle.layout.specs.declared.Kind.{Kind}
 use Rattle.layout.specs.declared.Density.{Density}
@@ -22,18 +21,15 @@ use Rattle.view.specs.Lemmas.Kept.{file_at_is}
 use Rattle.view.specs.Lemmas.Formed.{formed-parts}
 use Rattle.image.specs.Lemmas.Entries.{length-area}
 use Rattle.image.specs.Image.{view_of, files_in, DiskRules, remove_image}
-use Rattle.record.specs.Record.{shape_of, Files, Call, find, put, remove, Answer, Outcome, refused, valued, done, is_legal, kept_file, replaced, slot_of, judge_put, step_files}
-use Rattle.record.specs.declared.Judged.{Judged}
-use Rattle.record.specs.declared.Judged.TheVariants.{Refuse, Grant}
+use Rattle.record.specs.Record.{shape_of, Files, Call, find, put, remove, Answer, Outcome, refused, valued, done, is_legal, kept_file, replaced, slot_of, judge_put, step_files, Judged}
 use Rattle.record.specs.Order.{order_found, order_taken}
 use Rattle.record.specs.Step.{image_after, step_image}
 use Rattle.record.specs.Spelling.{in_capitals}
 use Rattle.record.proofs.Spelling.{image_spelled}
 use Rattle.record.specs.Types.{Apart}
 use Rattle.record.proofs.Types.{slot_held}
-use Rattle.rules.specs.declared.Checked.TheVariants.{Accepted}
-use Rattle.rules.specs.Check.{check_of, came, call_of}
-use Rattle.rules.proofs.Accepted.{accepted-rules}
+use Rattle.rules.specs.Check.{check_of, came, call_of, accepting}
+use Rattle.rules.proofs.Accepts.{accepted-rules}
 use Rattle.rules.specs.Demand.{slot_inside, file-used}
 use Rattle.rules.proofs.Demand.{call_is, files-after}
 
@@ -46,7 +42,7 @@ abbrev type_or : Option File → ℕ
 type_or none = 0
 type_or (some file) = file.type
 
-module _ (k : Kind) (d : Density) (f n : ℕ) (img : List ℕ) (accept : check_of img ≡ Accepted k d f n) where
+module _ (k : Kind) (d : Density) (f n : ℕ) (img : List ℕ) (accept : check_of img ≡ accepting k d f n) where
   abbrev l : Layout
   l = layout_of k d
 
@@ -69,8 +65,8 @@ module _ (k : Kind) (d : Density) (f n : ℕ) (img : List ℕ) (accept : check_o
   kept_by : (name : List ℕ) (type : ℕ) (content : List ℕ) (s : ℕ) (j : Judged) → judge_put l files name type content ≡ j → (step_files (shape_of k d) files (put name type content)).answer ≡ valued s
       → (step_files (shape_of k d) files (put name type content)).state s ≡ some (kept_file l name type content)
   unfolding step_files replaced
-  kept_by name type content s (Refuse r) e a = let z : some r ≡ none = ap (λ (x : Answer). x.refusal) (rw e at a) in absurd (let o : ◌≡◌ {A = ℕ} 0 1 = cc in omega arith)
-  kept_by name type content s (Grant t) e a = let z : t ≡ s = ap (λ (x : Answer). x.value) (rw e at a) in rw (e, z, eq-eqb s s refl) refl
+  kept_by name type content s (Err r) e a = let z : some r ≡ none = ap (λ (x : Answer). x.refusal) (rw e at a) in absurd (let o : ◌≡◌ {A = ℕ} 0 1 = cc in omega arith)
+  kept_by name type content s (Ok t) e a = let z : t ≡ s = ap (λ (x : Answer). x.value) (rw e at a) in rw (e, z, eq-eqb s s refl) refl
 
   -- The file that a put leaves has the name's capitals.
   pub put_keeps : (name : List ℕ) (type : ℕ) (content : List ℕ) (s : ℕ) → (call_of img (put name type content)).answer ≡ valued s
@@ -126,7 +122,7 @@ module _ (k : Kind) (d : Density) (f n : ℕ) (img : List ℕ) (accept : check_o
           ∙ name-legal l (layout_right k d) (area slot) (legal-area slot file there) (length-area (bytes img) (slot_offset l slot)))
           (rw (type_in slot file there) (formed-parts l ((view_of l (bytes img)).entry slot) (rules.valid.legal slot (file-used l img slot file there))).type)
 
-      at_slot : slot_of l files name file.type ≡ At slot
+      at_slot : slot_of l files name file.type ≡ Some slot
       at_slot = slot_held l files one_of_a_type name file.type slot (slot_inside l img slot file there) (file, there, spells, refl)
 
       -- its slot is found

@@ -1,15 +1,13 @@
 -- A file is known by its name and its type (document 02, request six): on an accepted disk find, put and remove go by both, so one name may stand in several
 -- types, and each file of it is found, in the way of a put, and removed by its own type alone.
 -- By cases on the record's judgement; a name and a type stand in one slot. Assumes nothing.
-use Rattle.std.specs.Prelude.{◌≡◌, refl, Bool, true, false, List, [], ◌↔◌, ℕ, ◌≤◌, ◌<◌, eqb, ltb, length}
+use Rattle.std.specs.Prelude.{◌≡◌, refl, Bool, true, false, List, [], ◌↔◌, ℕ, ◌≤◌, ◌<◌, eqb, ltb, length, Some, Err, Ok, None}
 use Rattle.std.proofs.Common.{sym, ◌∙◌, arith, eqb-true, le-ltb}
 use Rattle.std.proofs.Math.Path.{ap}
 use Rattle.std.proofs.Math.Option.{none, some}
 use Rattle.laws.specs.Lemmas.Truth.{both_true, clash}
 use Rattle.laws.specs.Lists.{same}
 use Rattle.laws.specs.Lemmas.Scan.{at→}
-use Rattle.laws.specs.declared.Lowest.{Lowest}
-use Rattle.laws.specs.declared.Lowest.TheVariants.{At, Nowhere}
 use Rattle.laws.specs.declared.Refusal.{Refusal}
 use Rattle.layout.specs.declared.Kind.{Kind}
 use Rattle.layout.specs.declared.Density.{Density}
@@ -20,28 +18,26 @@ use Rattle.blocks.specs.Blocks.{blocks_for}
 use Rattle.names.specs.Names.{legal_name, legal_type, capitals}
 use Rattle.view.specs.Disk.{File}
 use Rattle.image.specs.Image.{files_in, DiskRules, remove_image}
-use Rattle.record.specs.Record.{shape_of, Files, Call, find, put, remove, Answer, Outcome, number_in, place_or, refused, refused_by, valued, done, refuse, refuse_if, is_legal, Removes, kept_file, is_empty, slot_of, empty_slot, free, judge_name, judge_put, finding, putting, removing}
-use Rattle.record.specs.declared.Judged.{Judged}
-use Rattle.record.specs.declared.Judged.TheVariants.{Refuse, Grant}
+use Rattle.record.specs.Record.{shape_of, Files, Call, find, put, remove, Answer, Outcome, number_in, place_or, refused, refused_by, valued, done, refuse, refuse_if, is_legal, Removes, kept_file, is_empty, slot_of, empty_slot, free, judge_name, judge_put, finding, putting, removing, Judged}
 use Rattle.record.specs.Order.{room_for, order_illegal, order_missing, order_found, order_unfit, order_taken, order_full, order_room}
 use Rattle.record.proofs.Others.{others}
 use Rattle.record.specs.Types.{Holds}
 use Rattle.record.proofs.Types.{slot_at, slot_none, none_held}
-use Rattle.rules.specs.declared.Checked.TheVariants.{Accepted}
-use Rattle.rules.specs.Check.{check_of, came, call_of}
+use Rattle.rules.specs.Check.{check_of, came, call_of, accepting}
 use Rattle.rules.specs.Accepted.{accepted_as}
-use Rattle.rules.proofs.Accepted.{accepted-rules, rules-accepted}
+use Rattle.rules.proofs.Accepts.{accepted-rules, rules-accepted}
 use Rattle.rules.specs.Demand.{slot_inside, some_slot}
 use Rattle.rules.proofs.Demand.{call_is, rules-after, files-after, free_blocks_is, judged_room, put_answer}
 use Rattle.rules.specs.Lemmas.States.{step_find, step_remove}
 use Rattle.rules.proofs.Spelling as spelling
 use Rattle.rules.specs.Types.{FoundApart}
+use Rattle.laws.specs.Scan.{Lowest}
 
 -- how a name and a type are judged, and why
 data Judges (l : Layout) (files : Files) (name : List ℕ) (type : ℕ) : Judged → Type 0 where
   illegal : is_legal l name type ≡ false → Judges l files name type (refuse 11 0)
   missing : is_legal l name type ≡ true → ((s : ℕ) → Holds l files name type s → ⊥) → Judges l files name type (refuse 10 0)
-  held : is_legal l name type ≡ true → (s : ℕ) → Holds l files name type s → Judges l files name type (Grant s)
+  held : is_legal l name type ≡ true → (s : ℕ) → Holds l files name type s → Judges l files name type (Ok s)
 
 -- what such a put leaves: an accepted image with both files
 record SecondPut (k : Kind) (d : Density) (img : List ℕ) (slot : ℕ) (file : File) (type : ℕ) (content : List ℕ) : Type 0 where
@@ -64,7 +60,7 @@ same_number a b e = ap (λ (o : Outcome (List ℕ)). number_in o.answer.refusal)
 other-number : {a b : Answer} → a ≡ b → (number_in a.refusal ≡ number_in b.refusal → ⊥) → ⊥
 other-number e n = n (ap (λ (x : Answer). number_in x.refusal) e)
 
-module _ (k : Kind) (d : Density) (f n : ℕ) (img : List ℕ) (accept : check_of img ≡ Accepted k d f n) where
+module _ (k : Kind) (d : Density) (f n : ℕ) (img : List ℕ) (accept : check_of img ≡ accepting k d f n) where
   abbrev l : Layout
   l = layout_of k d
 
@@ -76,8 +72,8 @@ module _ (k : Kind) (d : Density) (f n : ℕ) (img : List ℕ) (accept : check_o
 
   module _ (name : List ℕ) (type : ℕ) where
     by_slot : is_legal l name type ≡ true → (w : Lowest) → slot_of l files name type ≡ w → Judges l files name type (judge_name l files name type)
-    by_slot p (At s) e = rw (order_found l files name type p e) (held p s (slot_at l files name type s e))
-    by_slot p Nowhere e = rw (order_missing l files name type p e) (missing p (λ s h. none_held l files name type e s (slot_inside l img s h.0 h.1) h))
+    by_slot p (Some s) e = rw (order_found l files name type p e) (held p s (slot_at l files name type s e))
+    by_slot p None e = rw (order_missing l files name type p e) (missing p (λ s h. none_held l files name type e s (slot_inside l img s h.0 h.1) h))
 
     by_legal : (t : Bool) → is_legal l name type ≡ t → Judges l files name type (judge_name l files name type)
     by_legal false p = rw (order_illegal l files name type p) (illegal p)
@@ -141,8 +137,8 @@ module _ (k : Kind) (d : Density) (f n : ℕ) (img : List ℕ) (accept : check_o
     refused_as_found r e = removed_is ∙ go (judge_name l files name type) (sym found_is ∙ e)
       where
         go : (j : Judged) → finding img j ≡ came (refused_by r) [] img → removing img (remove_image l img) j ≡ came (refused_by r) [] img
-        go (Refuse q) h = h
-        go (Grant s) h = absurd (let z : none ≡ some r = ap (λ (o : Outcome (List ℕ)). o.answer.refusal) h in let o : ◌≡◌ {A = ℕ} 0 1 = cc in omega arith)
+        go (Err q) h = h
+        go (Ok s) h = absurd (let z : none ≡ some r = ap (λ (o : Outcome (List ℕ)). o.answer.refusal) h in let o : ◌≡◌ {A = ℕ} 0 1 = cc in omega arith)
 
     pub removed_as_found : (slot : ℕ) → call_of img (find name type) ≡ came (valued slot) [] img → call_of img (remove name type) ≡ came done [] (remove_image l img slot)
     removed_as_found slot e = go ((found_exactly slot).0 e)
@@ -154,7 +150,7 @@ module _ (k : Kind) (d : Density) (f n : ℕ) (img : List ℕ) (accept : check_o
 
     module _ (content : List ℕ) (given : length content ≡ 0 → ⊥) where
       -- where no slot has name and type, put isn't refused by 12
-      room_else : (t u : Bool) (s slot : ℕ) → (putting img (λ s. img) (refuse_if t 15 (refuse_if u 16 (Grant s)))).answer ≡ refused 12 slot → ⊥
+      room_else : (t u : Bool) (s slot : ℕ) → (putting img (λ s. img) (refuse_if t 15 (refuse_if u 16 (Ok s)))).answer ≡ refused 12 slot → ⊥
       room_else true u s slot e = other-number e (λ z. omega arith)
       room_else false true s slot e = other-number e (λ z. omega arith)
       room_else false false s slot e = other-number e (λ z. omega arith)
@@ -163,20 +159,20 @@ module _ (k : Kind) (d : Density) (f n : ℕ) (img : List ℕ) (accept : check_o
           → (putting img (λ s. img) j).answer ≡ refused 12 slot
       put_by slot j e h = rw e at h
 
-      else_slot : (slot : ℕ) → is_legal l name type ≡ true → slot_of l files name type ≡ Nowhere → (w : Lowest) → empty_slot l files ≡ w
+      else_slot : (slot : ℕ) → is_legal l name type ≡ true → slot_of l files name type ≡ None → (w : Lowest) → empty_slot l files ≡ w
           → (putting img (λ s. img) (judge_put l files name type content)).answer ≡ refused 12 slot → ⊥
-      else_slot slot p e Nowhere w h =
+      else_slot slot p e None w h =
           other-number (put_by slot (refuse 14 0) (order_full l files name type content p given e w) h) (λ z. omega arith)
-      else_slot slot p e (At s) w h =
+      else_slot slot p e (Some s) w h =
           room_else (ltb (free l files) (blocks_for (length content))) (ltb 16777215 (length content)) s slot
           (put_by slot (room_for (free l files) (length content) s) (order_room l files name type content p given e w) h)
 
       by_taken : (slot : ℕ) → is_legal l name type ≡ true → (w : Lowest) → slot_of l files name type ≡ w
           → (putting img (λ s. img) (judge_put l files name type content)).answer ≡ refused 12 slot → Holds l files name type slot
-      by_taken slot p (At s) e h =
+      by_taken slot p (Some s) e h =
           let z : s ≡ slot = ap (λ (a : Answer). place_or a.refusal 0) (put_by slot (refuse 12 s) (order_taken l files name type content p given e) h) in
           rw z at (slot_at l files name type s e)
-      by_taken slot p Nowhere e h = absurd (else_slot slot p e (empty_slot l files) refl h)
+      by_taken slot p None e h = absurd (else_slot slot p e (empty_slot l files) refl h)
 
       by_form : (slot : ℕ) (t : Bool) → is_legal l name type ≡ t → (putting img (λ s. img) (judge_put l files name type content)).answer ≡ refused 12 slot → Holds l files name type slot
       by_form slot false p h =
@@ -205,7 +201,7 @@ module _ (k : Kind) (d : Density) (f n : ℕ) (img : List ℕ) (accept : check_o
   -- ---- a second type
 
   -- a content that fits the free blocks is granted
-  fits : (size s : ℕ) → blocks_for size ≤ n → room_for n size s ≡ Grant s
+  fits : (size s : ℕ) → blocks_for size ≤ n → room_for n size s ≡ Ok s
   fits size s room =
       let area = (free_blocks_is k d f n img accept).1 in
       let most = (layout_right k d).blocks_most in
@@ -224,12 +220,12 @@ module _ (k : Kind) (d : Density) (f n : ℕ) (img : List ℕ) (accept : check_o
     own_legal : (legal_name l file.name ≡ true) × (legal_type l file.type ≡ true)
     own_legal = both_true (legal_name l file.name) (legal_type l file.type) (spelling.legal k d f n img accept slot file there file.name own_name)
 
-    empty_slot_is : (r : ℕ) × (empty_slot l files ≡ At r)
+    empty_slot_is : (r : ℕ) × (empty_slot l files ≡ Some r)
     empty_slot_is = some_slot k d f n img accept file.name type content s inside empty
 
     granted : (call_of img putting_it).answer ≡ valued empty_slot_is.0
     granted =
-        put_answer k d f n img accept file.name type content (Grant empty_slot_is.0)
+        put_answer k d f n img accept file.name type content (Ok empty_slot_is.0)
         (judged_room k d f n img accept file.name type content typed own_legal.0 (slot_none l files file.name type new) given empty_slot_is.0
         empty_slot_is.1 ∙ fits (length content) empty_slot_is.0 room)
 
@@ -253,7 +249,7 @@ module _ (k : Kind) (d : Density) (f n : ℕ) (img : List ℕ) (accept : check_o
     }
 
 -- A file's name may be put in another legal type that no file of the name has, where content is given, a slot is empty and there is room: then both are found.
-pub second_type : (k : Kind) (d : Density) (f n : ℕ) (img : List ℕ) → check_of img ≡ Accepted k d f n → (slot : ℕ) (file : File) → files_in (layout_of k d) img slot ≡ some file
+pub second_type : (k : Kind) (d : Density) (f n : ℕ) (img : List ℕ) → check_of img ≡ accepting k d f n → (slot : ℕ) (file : File) → files_in (layout_of k d) img slot ≡ some file
     → (type : ℕ) → legal_type (layout_of k d) type ≡ true → ((s : ℕ) → Holds (layout_of k d) (files_in (layout_of k d) img) file.name type s → ⊥) → (content : List ℕ) → (length content ≡ 0 → ⊥)
     → blocks_for (length content) ≤ n → (s : ℕ) → s < (layout_of k d).slots → files_in (layout_of k d) img s ≡ none → FoundApart img slot file type content
 second_type k d f n img accept slot file there type typed new content given room s inside empty =

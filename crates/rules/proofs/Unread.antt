@@ -1,6 +1,6 @@
 -- A first directory that isn't in use is neither read nor changed by any call, but for its byte 16, which tells the kind (document 02, request five).
 -- Directory in use, map and data blocks lie past it, so images that differ in it alone show one disk; whatever is written is written to both. Assumes nothing.
-use Rattle.std.specs.Prelude.{◌≡◌, Bool, List, ◌++◌, ◌⊎◌, eqb, length}
+use Rattle.std.specs.Prelude.{◌≡◌, Bool, List, ◌++◌, ◌⊎◌, eqb, length, Ok, Err}
 use Rattle.std.proofs.Math.Path.{refl, sym, ap, ap₂, fun_ext}
 use Rattle.std.proofs.Common.{◌∙◌, inl, inr, arith}
 use Rattle.std.proofs.Math.Bool.{true, false, not}
@@ -28,21 +28,17 @@ use Rattle.image.specs.Image.{entry_at, view_of, files_in, InUse, DiskRules, era
 use Rattle.image.specs.Lemmas.Entries.{entry_cong}
 use Rattle.salvage.specs.Salvage.{with_entries, verdict, drops, entries_after, report_of, dropped_slots, wrong_system, stray_blocks, erase_slots, salvage_image, map_changes, report_after}
 use Rattle.salvage.proofs.Theorems.{salvage_first}
-use Rattle.record.specs.declared.Judged.{Judged}
-use Rattle.record.specs.declared.Judged.TheVariants.{Refuse, Grant}
-use Rattle.record.specs.Record.{shape_of, Files, Call, check, list, find, page, put, remove, salvage, valued, judge_name, judge_put, step_files}
+use Rattle.record.specs.Record.{shape_of, Files, Call, check, list, find, page, put, remove, salvage, valued, judge_name, judge_put, step_files, Judged}
 use Rattle.record.specs.Step.{after, image_after, step_image}
-use Rattle.rules.specs.declared.Checked.{Checked}
-use Rattle.rules.specs.declared.Checked.TheVariants.{Accepted, Refused}
-use Rattle.rules.specs.declared.Known.TheVariants.{Disk}
-use Rattle.rules.specs.Check.{known_head, known_of, check_of, salvage_as, salvage_of, unaccepted, call_by, call_of}
-use Rattle.rules.proofs.Accepted.{known_is, rules_known, accepted-rules}
+use Rattle.rules.specs.Check.{known_head, known_of, check_of, salvage_as, salvage_of, unaccepted, call_by, call_of, Checked, known_as}
+use Rattle.rules.proofs.Accepts.{known_is, rules_known, accepted-rules}
 use Rattle.rules.proofs.Outside.{system_kept}
 use Rattle.rules.proofs.Salvage.{known_size}
 use Rattle.rules.specs.Head.{Read}
 use Rattle.rules.proofs.Head.{same_known, check_reads}
 use Rattle.rules.specs.Lemmas.Alike.{Alike, set-all_alike, put_alike, erase_alike, erase_slots_alike}
 use Rattle.rules.specs.Unread.{SameButFirst, Unseen}
+use Rattle.rules.specs.Lemmas.Steps.{known_as_is}
 
 -- ---- the salvage run's judgement reads no data block
 
@@ -102,7 +98,7 @@ module _ (l : Layout) (v : View) (block : ℕ → List ℕ) where
 
 -- ---- images that differ in the first directory alone
 
-module _ (k : Kind) (d : Density) (second : (layout_of k d).second ≡ true) (x y : List ℕ) (known : known_of x ≡ Disk k d) (same : SameButFirst x y) where
+module _ (k : Kind) (d : Density) (second : (layout_of k d).second ≡ true) (x y : List ℕ) (known : known_of x ≡ known_as k d) (same : SameButFirst x y) where
   abbrev l : Layout
   l = layout_of k d
 
@@ -133,7 +129,7 @@ module _ (k : Kind) (d : Density) (second : (layout_of k d).second ≡ true) (x 
       same.rest i (omega (arith, p.0, (layout_right j c).second_directory (here.passed_over_is.0 over)))
   read_same j c i h here (inr p) = same.rest i p.0
 
-  known_same : known_of y ≡ Disk k d
+  known_same : known_of y ≡ known_as k d
   known_same = ap (λ (n : ℕ). known_head n (bytes y)) same.size ∙ same_known (bytes x) (bytes y) (length x) same.type read_same ∙ known
 
   check_same : check_of y ≡ check_of x
@@ -231,13 +227,13 @@ module _ (k : Kind) (d : Density) (second : (layout_of k d).second ≡ true) (x 
     image_same (put name type content) = rw files-same (go (judge_put l (files_in l x) name type content))
       where
         go : (j : Judged) → SameButFirst (after x (λ s. put_image l x s name type content) j) (after y (λ s. put_image l y s name type content) j)
-        go (Refuse r) = same
-        go (Grant s) = put_same s name type content
+        go (Err r) = same
+        go (Ok s) = put_same s name type content
     image_same (remove name type) = rw files-same (go (judge_name l (files_in l x) name type))
       where
         go : (j : Judged) → SameButFirst (after x (remove_image l x) j) (after y (remove_image l y) j)
-        go (Refuse r) = same
-        go (Grant s) = remove_same s
+        go (Err r) = same
+        go (Ok s) = remove_same s
     image_same (salvage report) = same
 
     step_unseen : (c : Call) → Unseen (step_image (shape_of k d) x c) (step_image (shape_of k d) y c)
@@ -264,16 +260,15 @@ module _ (k : Kind) (d : Density) (second : (layout_of k d).second ≡ true) (x 
   first_unread c = rw check_same (go (check_of x) refl)
     where
       go : (w : Checked) → check_of x ≡ w → Unseen (call_by w x c) (call_by w y c)
-      go (Refused r) e = refused_unseen r c
-      go (Accepted j b f n) e =
-          let told : Disk k d ≡ Disk j b = sym known ∙ rules_known j b x (accepted-rules j b f n x e) in
-          let u : k ≡ j = cc in
-          let w : d ≡ b = cc in
-          rw (← u, ← w) (step_unseen (rw (← u, ← w) at (accepted-rules j b f n x e)) c)
+      go (Err r) e = refused_unseen r c
+      go (Ok disk) e =
+          let told : known_as k d ≡ known_as disk.kind disk.density = sym known ∙ rules_known disk.kind disk.density x (accepted-rules disk.kind disk.density disk.files disk.free x e) in
+          let same = known_as_is told in
+          rw (← same.0, ← same.1) (step_unseen (rw (← same.0, ← same.1) at (accepted-rules disk.kind disk.density disk.files disk.free x e)) c)
 
 -- ---- nor does any call change it
 
-module _ (k : Kind) (d : Density) (second : (layout_of k d).second ≡ true) (img : List ℕ) (known : known_of img ≡ Disk k d) (i : ℕ) (low : i < map_offset 0) where
+module _ (k : Kind) (d : Density) (second : (layout_of k d).second ≡ true) (img : List ℕ) (known : known_of img ≡ known_as k d) (i : ℕ) (low : i < map_offset 0) where
   mended_kept : (report : List ℕ) → bytes (salvage_of img report).state i ≡ bytes img i
   unfolding salvage_of salvage_as
   mended_kept report = rw known (go (ltb (length report) (layout_of k d).slots) refl)
@@ -295,10 +290,9 @@ module _ (k : Kind) (d : Density) (second : (layout_of k d).second ≡ true) (im
   first_kept c = go (check_of img) refl
     where
       go : (w : Checked) → check_of img ≡ w → bytes (call_of img c).state i ≡ bytes img i
-      go (Refused r) e = unfold call_of in rw e (refused_kept r c)
-      go (Accepted j b f n) e =
-          let told : Disk k d ≡ Disk j b = sym known ∙ rules_known j b img (accepted-rules j b f n img e) in
-          let u : k ≡ j = cc in
-          let w : d ≡ b = cc in
-          let past = (layout_right j b).second_directory (rw (u, w) at second) in
-          system_kept j b f n img e c i (omega (arith, (layout_right j b).map-low)) (inl low) (inl (omega (arith, past)))
+      go (Err r) e = unfold call_of in rw e (refused_kept r c)
+      go (Ok disk) e =
+          let told : known_as k d ≡ known_as disk.kind disk.density = sym known ∙ rules_known disk.kind disk.density img (accepted-rules disk.kind disk.density disk.files disk.free img e) in
+          let same = known_as_is told in
+          let past = (layout_right disk.kind disk.density).second_directory (rw (same.0, same.1) at second) in
+          system_kept disk.kind disk.density disk.files disk.free img e c i (omega (arith, (layout_right disk.kind disk.density).map-low)) (inl low) (inl (omega (arith, past)))

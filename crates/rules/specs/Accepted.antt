@@ -15,13 +15,11 @@ use Rattle.layout.specs.Layouts.{layout_of, blocks_of, image_length, length_of}
 use Rattle.map.specs.Map.{map_at, free_count}
 use Rattle.image.specs.Image.{files_in, InUse}
 use Rattle.record.specs.Record.{file_count}
-use Rattle.rules.specs.declared.Checked.{Checked}
-use Rattle.rules.specs.declared.Checked.TheVariants.{Accepted}
-use Rattle.rules.specs.Check.{density_of, passed_over}
+use Rattle.rules.specs.Check.{density_of, passed_over, Checked, accepting}
 
 -- The check's answer for an image that meets the rules.
 abbrev pub accepted_as : Kind → Density → List ℕ → Checked
-accepted_as k d img = Accepted k d (file_count (layout_of k d) (files_in (layout_of k d) img)) (free_count (layout_of k d) (map_at (bytes img)))
+accepted_as k d img = accepting k d (file_count (layout_of k d) (files_in (layout_of k d) img)) (free_count (layout_of k d) (map_at (bytes img)))
 
 -- ---- the length
 

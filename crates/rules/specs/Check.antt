@@ -1,6 +1,6 @@
 -- The check over a length and a reader of bytes: refusals 1 to 9 in document 01's order ("The numbers given back"), and the meaning of
 -- every public call on any bytes: the check first, but for salvage. Assumes nothing.
-use Rattle.std.specs.Prelude.{◌≡◌, Bool, List, [], ℕ, min, ltb, eqb, length}
+use Rattle.std.specs.Prelude.{◌≡◌, Bool, List, [], ℕ, min, ltb, eqb, length, Ok, Err, Result}
 use Rattle.std.proofs.Math.Option.{Option, none, some}
 use Rattle.laws.specs.Truth.{pick}
 use Rattle.laws.specs.Scan.{all, count}
@@ -13,23 +13,33 @@ use Rattle.layout.specs.declared.Layout.{Layout}
 use Rattle.layout.specs.Layouts.{layout_of, length_of, head_length}
 use Rattle.map.specs.Map.{map_at, free_count}
 use Rattle.view.specs.Disk.{View, used}
-use Rattle.view.specs.declared.Ruled.{Ruled}
-use Rattle.view.specs.declared.Ruled.TheVariants.{Pass, Fail}
 use Rattle.laws.specs.declared.Refusal.{Refusal}
 use Rattle.laws.specs.Refusals.{refusal_at}
-use Rattle.view.specs.Rules.{rules}
+use Rattle.view.specs.Rules.{rules, Ruled}
 use Rattle.image.specs.Image.{entry_at, identity_at, view_of}
 use Rattle.salvage.specs.Salvage.{salvage_image, map_changes, report_after}
 use Rattle.record.specs.Record.{shape_of, Call, check, list, find, page, put, remove, salvage, Answer, accepted, refused, refused_by, valued, Outcome}
 use Rattle.record.specs.Step.{step_image}
-use Rattle.rules.specs.declared.Checked.{Checked}
-use Rattle.rules.specs.declared.Checked.TheVariants.{Accepted, Refused}
-use Rattle.rules.specs.declared.Known.{Known}
-use Rattle.rules.specs.declared.Known.TheVariants.{Disk, Unknown}
+use Rattle.rules.specs.declared.Accepted.{Accepted}
+use Rattle.rules.specs.declared.Format.{Format}
+
+-- What the check tells of an image: kind, density and counts of one that it accepts, or its refusal.
+abbrev pub Checked : Type 0
+Checked = Result Accepted Refusal
+
+abbrev pub accepting : Kind → Density → ℕ → ℕ → Checked
+accepting k d files free = Ok (record { kind = k; density = d; files = files; free = free })
+
+-- What is known of an image before that: its kind and density, or a refusal, 1 or 2.
+abbrev pub Known : Type 0
+Known = Result Format Refusal
+
+abbrev pub known_as : Kind → Density → Known
+known_as k d = Ok (record { kind = k; density = d })
 
 -- what comes next of a value, or the refusal where there is none
 abbrev pub or_unknown : {A : Type 0} → Option A → ℕ → (A → Known) → Known
-or_unknown none number next = Unknown (refusal_at number 0)
+or_unknown none number next = Err (refusal_at number 0)
 or_unknown (some x) number next = next x
 
 -- 1: the image's length is one of the two.
@@ -62,7 +72,7 @@ kind_of d b =
 -- 2: the kind that the directory in use tells.
 unfoldable pub known_kind : Density → (ℕ → ℕ) → Known
 unfolding kind_of
-known_kind d b = or_unknown (kind_of d b) 2 (λ k. Disk k d)
+known_kind d b = or_unknown (kind_of d b) 2 (λ k. known_as k d)
 
 -- 1, then 2: what is known of an image by its length and its directory. The check and the salvage run both begin so.
 unfoldable pub known_head : ℕ → (ℕ → ℕ) → Known
@@ -79,19 +89,19 @@ used_count l v = count (λ s. used (v.entry s)) 0 l.slots
 
 -- 3 to 9: the disk rules of that kind and density.
 abbrev pub or_fault : Ruled → Checked → Checked
-or_fault Pass next = next
-or_fault (Fail r) next = Refused r
+or_fault (Ok _) next = next
+or_fault (Err r) next = Err r
 
 unfoldable pub check_as : Kind → Density → (ℕ → ℕ) → Checked
 unfolding rules used_count free_count entry_at
 check_as k d b =
     let l = layout_of k d in
-    or_fault (rules l (view_of l b)) (Accepted k d (used_count l (view_of l b)) (free_count l (map_at b)))
+    or_fault (rules l (view_of l b)) (accepting k d (used_count l (view_of l b)) (free_count l (map_at b)))
 
 -- 1 and 2, then those of the kind and density.
 abbrev pub check_known : Known → (ℕ → ℕ) → Checked
-check_known (Unknown r) b = Refused r
-check_known (Disk k d) b = check_as k d b
+check_known (Err r) b = Err r
+check_known (Ok disk) b = check_as disk.kind disk.density b
 
 unfoldable pub check_head : ℕ → (ℕ → ℕ) → Checked
 unfolding known_head check_as
@@ -105,7 +115,7 @@ check_of img = check_head (length img) (bytes img)
 -- refused as a wrong length is.
 unfoldable pub known_start : List ℕ → ℕ → Known
 unfolding known_head
-known_start head size = pick (ltb (length head) (min size head_length)) (Unknown (refusal_at 1 0)) (known_head size (bytes head))
+known_start head size = pick (ltb (length head) (min size head_length)) (Err (refusal_at 1 0)) (known_head size (bytes head))
 
 unfoldable pub check_start : List ℕ → ℕ → Checked
 unfolding known_start check_as
@@ -113,12 +123,8 @@ check_start head size = check_known (known_start head size) (bytes head)
 
 -- The check's number, place and values.
 abbrev pub answer_of : Checked → Answer
-answer_of (Accepted k d files free) = accepted k d files free
-answer_of (Refused r) = refused_by r
-
-abbrev pub refusal_of : Checked → Refusal
-refusal_of (Accepted k d files free) = refusal_at 0 0
-refusal_of (Refused r) = r
+answer_of (Ok disk) = accepted disk.kind disk.density disk.files disk.free
+answer_of (Err r) = refused_by r
 
 -- ---- every public call
 
@@ -144,8 +150,8 @@ salvage_as l img report =
     (came (valued (map_changes l img (salvage_image l img))) (report_after l img report) (salvage_image l img))
 
 abbrev pub salvage_known : Known → List ℕ → List ℕ → Outcome (List ℕ)
-salvage_known (Unknown r) img report = came (refused_by r) report img
-salvage_known (Disk k d) img report = salvage_as (layout_of k d) img report
+salvage_known (Err r) img report = came (refused_by r) report img
+salvage_known (Ok disk) img report = salvage_as (layout_of disk.kind disk.density) img report
 
 -- The salvage run on any bytes (document 02, request four): 1, 2, then 21, else it is done.
 unfoldable pub salvage_of : List ℕ → List ℕ → Outcome (List ℕ)
@@ -163,8 +169,8 @@ unaccepted r img (remove name type) = came (refused_by r) [] img
 unaccepted r img (salvage report) = salvage_of img report
 
 abbrev pub call_by : Checked → List ℕ → Call → Outcome (List ℕ)
-call_by (Refused r) img c = unaccepted r img c
-call_by (Accepted k d files free) img c = step_image (shape_of k d) img c
+call_by (Err r) img c = unaccepted r img c
+call_by (Ok disk) img c = step_image (shape_of disk.kind disk.density) img c
 
 -- A call on any bytes: on an accepted image the answer and the output are the record's. What salvage comes to is `salvage_of` there too (`salvage_call_is`).
 unfoldable pub call_of : List ℕ → Call → Outcome (List ℕ)

@@ -1,16 +1,14 @@
 -- Demand 3, one claim about calls made one after another on an accepted image: after each, all is the plain record's (`demand_3`).
 -- An accepted image meets the disk rules, a call keeps them and changes the files as the record does. Assumes nothing.
-use Rattle.std.specs.Prelude.{◌≡◌, Bool, true, false, ◌↔◌, ℕ, ◌+◌, ◌<◌, length}
+use Rattle.std.specs.Prelude.{◌≡◌, Bool, true, false, ◌↔◌, ℕ, ◌+◌, ◌<◌, length, Some, None}
 use Rattle.std.proofs.Math.Path.{refl, ap}
 use Rattle.std.proofs.Common.{sym, ◌∙◌, arith}
 use mathlib.Core.List.{List, [], ◌∷◌}
 use Rattle.std.proofs.Math.Option.{none, some}
 use Rattle.std.proofs.Math.Decide.{dec_lt}
 use Rattle.laws.specs.Lemmas.Truth.{clash}
-use Rattle.laws.specs.Scan.{lowest, total}
+use Rattle.laws.specs.Scan.{lowest, total, Lowest}
 use Rattle.laws.specs.Lemmas.Scan.{nowhere→}
-use Rattle.laws.specs.declared.Lowest.{Lowest}
-use Rattle.laws.specs.declared.Lowest.TheVariants.{At, Nowhere}
 use Rattle.laws.specs.Reader.{bytes}
 use Rattle.layout.specs.declared.Kind.{Kind}
 use Rattle.layout.specs.declared.Density.{Density}
@@ -24,8 +22,7 @@ use Rattle.view.specs.Lemmas.Kept.{file_at_is, file-out}
 use Rattle.image.specs.Image.{view_of, files_in}
 use Rattle.record.specs.Record.{shape_of, Files, put, remove, Turn, refused, Removes, is_empty, empty_slot, step_files}
 use Rattle.record.specs.Download.{Pages, own, nothing, got, Asked, Spared, Joins}
-use Rattle.rules.specs.declared.Checked.TheVariants.{Accepted}
-use Rattle.rules.specs.Check.{check_of, Made}
+use Rattle.rules.specs.Check.{check_of, Made, accepting}
 use Rattle.rules.specs.Accepted.{accepted_as}
 
 -- ---- the claim
@@ -85,17 +82,17 @@ file-used l img s file e = (slot_inside l img s file e, go (used ((view_of l (by
 
 -- ---- room
 
-module _ (k : Kind) (d : Density) (f n : ℕ) (img : List ℕ) (yes : check_of img ≡ Accepted k d f n) (name : List ℕ) (type : ℕ) (content : List ℕ) where
+module _ (k : Kind) (d : Density) (f n : ℕ) (img : List ℕ) (yes : check_of img ≡ accepting k d f n) (name : List ℕ) (type : ℕ) (content : List ℕ) where
   abbrev l : Layout
   l = layout_of k d
 
   abbrev files : Files
   files = files_in l img
 
-  pub some_slot : (s : ℕ) → s < l.slots → files s ≡ none → (r : ℕ) × (empty_slot l files ≡ At r)
+  pub some_slot : (s : ℕ) → s < l.slots → files s ≡ none → (r : ℕ) × (empty_slot l files ≡ Some r)
   unfolding empty_slot
   some_slot s h e = go (lowest (λ t. is_empty (files t)) 0 l.slots) refl
     where
-      go : (w : Lowest) → lowest (λ t. is_empty (files t)) 0 l.slots ≡ w → (r : ℕ) × (lowest (λ t. is_empty (files t)) 0 l.slots ≡ At r)
-      go (At r) p = (r, p)
-      go Nowhere p = absurd (clash (ap is_empty e) (nowhere→ (λ t. is_empty (files t)) 0 l.slots p s (omega arith) (omega arith)))
+      go : (w : Lowest) → lowest (λ t. is_empty (files t)) 0 l.slots ≡ w → (r : ℕ) × (lowest (λ t. is_empty (files t)) 0 l.slots ≡ Some r)
+      go (Some r) p = (r, p)
+      go None p = absurd (clash (ap is_empty e) (nowhere→ (λ t. is_empty (files t)) 0 l.slots p s (omega arith) (omega arith)))

@@ -4,6 +4,7 @@ use Rattle.std.specs.Prelude.{ℕ, ◌≤◌, ◌<◌}
 use Rattle.std.proofs.Math.Option.{Option, none, some}
 use Rattle.laws.specs.declared.Refusal.{Refusal}
 use Rattle.record.specs.Record.{Answer}
+use Rattle.laws.specs.Refusals.{number_of, place_of}
 
 -- Three bytes hold the number.
 abbrev pub Small : ℕ → Type 0
@@ -11,9 +12,9 @@ Small n = n < 16777216
 
 -- A refusal of document 01's table: none has number 0.
 pub record Numbered (r : Refusal) : Type 0 where
-  pub some : 1 ≤ r.number
-  pub most : r.number ≤ 21
-  pub place : Small r.place
+  pub some : 1 ≤ number_of r
+  pub most : number_of r ≤ 21
+  pub place : Small (place_of r)
 
 abbrev pub NumberedIn : Option Refusal → Type 0
 NumberedIn none = Unit {0}

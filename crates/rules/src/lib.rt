@@ -1,45 +1,20 @@
-// The check's answer, and what is known of an image before it; what they mean is in specs/.
+// What the check and the salvage run tell of an image; what it means is in specs/.
 #![tactic(auto)]
 
-ghost use Rattle.std.specs.Prelude.{◌≡◌};
-ghost use Rattle.rules.specs.Check.{refusal_of};
+use layout::{Density, Kind};
 
-// An accepted image's kind and density, and its counts of files and free blocks; or a refusal.
+// An accepted image's kind and density, and its counts of files and free blocks.
 #[derive(Clone, Copy)]
-pub enum Checked {
-    Accepted {
-        kind: layout::Kind,
-        density: layout::Density,
-        files: usize,
-        free: usize,
-    },
-    Refused(laws::Refusal),
+pub struct Accepted {
+    pub kind: Kind,
+    pub density: Density,
+    pub files: usize,
+    pub free: usize,
 }
 
-// The kind and density that an image's length and its slots' identities say; or a refusal, 1 or 2.
+// The kind and density that an image's length and its slots' identities say.
 #[derive(Clone, Copy)]
-pub enum Known {
-    Disk {
-        kind: layout::Kind,
-        density: layout::Density,
-    },
-    Unknown(laws::Refusal),
-}
-
-// The check's refusal, 0 at 0 for none.
-pub fn refusal_of(checked: Checked) -> laws::Refusal
-    ensures { result ≡ refusal_of checked }
-{
-    match checked {
-        Checked::Accepted {
-            kind: _,
-            density: _,
-            files: _,
-            free: _,
-        } => laws::Refusal {
-            number: 0,
-            place: 0,
-        },
-        Checked::Refused(refusal) => refusal,
-    }
+pub struct Format {
+    pub kind: Kind,
+    pub density: Density,
 }

@@ -1,6 +1,6 @@
 -- What the two calls promise, as a client sees it: which inputs are accepted, and that unpacking and packing undo each other.
 -- An accepted call's refusals are all past; then the rules and the data's own way back. Assumes nothing.
-use Rattle.std.specs.Prelude.{◌≡◌, ◌↔◌, ℕ, ◌+◌, ◌≤◌, ℤ, take, drop}
+use Rattle.std.specs.Prelude.{◌≡◌, ◌↔◌, ℕ, ◌+◌, ◌≤◌, ℤ, take, drop, Ok, None}
 use Rattle.std.proofs.Math.Path.{refl, sym, ap}
 use Rattle.std.proofs.Common.{◌∙◌, arith, take-append-drop, take_at, get_or-drop}
 use mathlib.Core.List.{List, ◌++◌}
@@ -8,8 +8,6 @@ use Rattle.std.proofs.Math.ListN.{length, length-drop}
 use Rattle.std.proofs.lemmas.List.Edits.{sets, sets-eq}
 use Rattle.laws.specs.Refusals.{Filled, filled, unless}
 use Rattle.laws.specs.Splice.{splice}
-use Rattle.laws.specs.declared.Lowest.TheVariants.{Nowhere}
-use Rattle.laws.specs.declared.Counted.TheVariants.{Done}
 use Rattle.samples.specs.declared.Sampler.{Sampler}
 use Rattle.samples.specs.Samples.{header_size, data_size, count_in, file_size, packed, header_of, words_of, file_fault, room_fault, unpack_of, pack_of, Held, Bytes}
 use Rattle.samples.specs.Rules.{SampleRules, file-accepted, header_accepted}
@@ -25,12 +23,12 @@ take_sets l v n e h = rw (sets-eq v l 0 (omega arith)) (take_at v (drop (0 + len
 -- ---- an unpack that is done
 
 record Unpacked (sampler : Sampler) (file : List ℕ) (words : List ℤ) (count : ℕ) : Type 0 where
-  pub fault : file_fault sampler file ≡ Nowhere
+  pub fault : file_fault sampler file ≡ None
   pub count_is : count_in sampler (header_of sampler file) ≡ count
   pub room : count_in sampler (header_of sampler file) ≤ length words
   pub output : (unpack_of sampler file words).output ≡ sets words 0 (words_of sampler file)
 
-unpack_done : (sampler : Sampler) (file : List ℕ) (words : List ℤ) (count : ℕ) → (unpack_of sampler file words).answer ≡ Done count → Unpacked sampler file words count
+unpack_done : (sampler : Sampler) (file : List ℕ) (words : List ℤ) (count : ℕ) → (unpack_of sampler file words).answer ≡ Ok count → Unpacked sampler file words count
 unfolding unpack_of
 unpack_done sampler file words count e =
     let a = unless-done 18 (file_fault sampler file) words _ count e in
@@ -42,23 +40,23 @@ unpack_done sampler file words count e =
       output = ap (λ (f : Filled ℤ). f.output) (a.1 ∙ b.1);
     }
 
-unpack_rules : (sampler : Sampler) (file : List ℕ) (words : List ℤ) (count : ℕ) → (unpack_of sampler file words).answer ≡ Done count
+unpack_rules : (sampler : Sampler) (file : List ℕ) (words : List ℤ) (count : ℕ) → (unpack_of sampler file words).answer ≡ Ok count
     → SampleRules sampler file × (count_in sampler (header_of sampler file) ≤ length words)
 unpack_rules sampler file words count e = let u = unpack_done sampler file words count e in ((file-accepted sampler file).0 u.fault, u.room)
 
 rules_unpack : (sampler : Sampler) (file : List ℕ) (words : List ℤ) → SampleRules sampler file × (count_in sampler (header_of sampler file) ≤ length words)
-    → (unpack_of sampler file words).answer ≡ Done (count_in sampler (header_of sampler file))
+    → (unpack_of sampler file words).answer ≡ Ok (count_in sampler (header_of sampler file))
 unfolding unpack_of
 rules_unpack sampler file words r = rw ((file-accepted sampler file).1 r.0, enough_room (length words) (count_in sampler (header_of sampler file)) r.1) refl
 
 -- Unpacking is accepted exactly where the file keeps its rules and the output has room for its words.
 pub unpack_accepted : (sampler : Sampler) (file : List ℕ) (words : List ℤ)
-    → ((unpack_of sampler file words).answer ≡ Done (count_in sampler (header_of sampler file))) ↔ (SampleRules sampler file × (count_in sampler (header_of sampler file) ≤ length words))
+    → ((unpack_of sampler file words).answer ≡ Ok (count_in sampler (header_of sampler file))) ↔ (SampleRules sampler file × (count_in sampler (header_of sampler file) ≤ length words))
 unpack_accepted sampler file words = (unpack_rules sampler file words (count_in sampler (header_of sampler file)), rules_unpack sampler file words)
 
 -- ---- packing what was unpacked
 
-module _ (sampler : Sampler) (file : List ℕ) (words : List ℤ) (count : ℕ) (small : Bytes file) (e : (unpack_of sampler file words).answer ≡ Done count) where
+module _ (sampler : Sampler) (file : List ℕ) (words : List ℤ) (count : ℕ) (small : Bytes file) (e : (unpack_of sampler file words).answer ≡ Ok count) where
   u : Unpacked sampler file words count
   u = unpack_done sampler file words count e
 
@@ -97,7 +95,7 @@ module _ (sampler : Sampler) (file : List ℕ) (words : List ℤ) (count : ℕ) 
 
   -- Packing the file's header and the words that were unpacked stores the file into any output that has room.
   pub pack_unpacked : (out : List ℕ)
-      → pack_of sampler (header_of sampler file) (take count (unpack_of sampler file words).output) out ≡ unless 21 (room_fault (length out) (length file)) out (filled (Done (length file)) (splice out 0 file))
+      → pack_of sampler (header_of sampler file) (take count (unpack_of sampler file words).output) out ≡ unless 21 (room_fault (length out) (length file)) out (filled (Ok (length file)) (splice out 0 file))
   unfolding pack_of n
   pack_unpacked out =
       let ws = words_of sampler file in

@@ -1,20 +1,17 @@
 -- S900 and S1000 sample files (document 01, "The files"): their parts, what is refused and where, and what unpacking and packing come to.
 -- One definition serves both samplers; they differ in sizes, offsets, tables and the form of the data. Assumes nothing.
-use Rattle.std.specs.Prelude.{Bool, true, not, List, ◌++◌, map, ℕ, ◌+◌, ◌*◌, ◌/◌, ◌%◌, ◌<◌, ltb, eqb, ℤ, pos, length, take, drop, get_or, ◌≡◌}
+use Rattle.std.specs.Prelude.{Bool, true, not, List, ◌++◌, map, ℕ, ◌+◌, ◌*◌, ◌/◌, ◌%◌, ◌<◌, ltb, eqb, ℤ, pos, length, take, drop, get_or, ◌≡◌, Ok, Some, None}
 use Rattle.std.proofs.lemmas.List.Edits.{sets}
 use Rattle.laws.specs.Truth.{pick, both}
-use Rattle.laws.specs.Scan.{lowest}
+use Rattle.laws.specs.Scan.{lowest, Lowest}
 use Rattle.laws.specs.Splice.{splice}
 use Rattle.laws.specs.Reader.{bytes, tab}
-use Rattle.laws.specs.declared.Lowest.{Lowest}
-use Rattle.laws.specs.declared.Lowest.TheVariants.{At, Nowhere}
 use Rattle.blocks.specs.Numbers.{number, digits}
 use Rattle.rows.specs.Rows.{rows_fault}
 use Rattle.headers.specs.Tables as tables
 use Rattle.headers.specs.Tables.{rows_of}
 use Rattle.headers.specs.declared.Table.{Table}
 use Rattle.headers.specs.declared.Table.TheVariants.{Sample900, Sample1000}
-use Rattle.laws.specs.declared.Counted.TheVariants.{Done}
 use Rattle.laws.specs.Refusals.{Filled, filled, unless}
 use Rattle.words.specs.Words.{parts, word_of, holds, bits_at, packed900, unpacked900}
 use Rattle.samples.specs.declared.Sampler.{Sampler}
@@ -83,14 +80,14 @@ words_of sampler file = unpacked sampler (bytes (drop (header_size sampler) file
 
 -- Refusal 18 in a header, by whether its number of words is right: at that number, else at the lowest offset whose rule fails.
 unfoldable pub head_fault : Sampler → List ℕ → Bool → Lowest
-head_fault sampler header right = pick right (rows_fault header 0 (rows_of (table_of sampler))) (At (count_offset sampler))
+head_fault sampler header right = pick right (rows_fault header 0 (rows_of (table_of sampler))) (Some (count_offset sampler))
 
 -- In a file: at 0 where it is shorter than its header; its number of words is right by the file's length.
 unfoldable pub file_fault : Sampler → List ℕ → Lowest
 unfolding head_fault
 file_fault sampler file =
     let count = count_in sampler (header_of sampler file) in
-    pick (ltb (length file) (header_size sampler)) (At 0)
+    pick (ltb (length file) (header_size sampler)) (Some 0)
     (head_fault sampler (header_of sampler file) (both (is_whole sampler count) (eqb (length file) (file_size sampler count))))
 
 -- In a header to pack: at 0 where it isn't of its exact size; its number of words is right by the words given.
@@ -98,7 +95,7 @@ unfoldable pub header_fault : Sampler → List ℕ → ℕ → Lowest
 unfolding head_fault
 header_fault sampler header given =
     let count = count_in sampler header in
-    pick (eqb (length header) (header_size sampler)) (head_fault sampler header (both (is_whole sampler count) (eqb count given))) (At 0)
+    pick (eqb (length header) (header_size sampler)) (head_fault sampler header (both (is_whole sampler count) (eqb count given))) (Some 0)
 
 -- Refusal 19: word i, which the S900's 12 bits hold or do not.
 abbrev pub is_short : List ℤ → ℕ → Bool
@@ -109,11 +106,11 @@ is_outside words i = not (is_short words i)
 
 abbrev pub range_fault : Sampler → List ℤ → Lowest
 range_fault S900 words = lowest (is_outside words) 0 (length words)
-range_fault S1000 words = Nowhere
+range_fault S1000 words = None
 
 -- Refusal 21: an output that has less room than is due.
 abbrev pub room_fault : ℕ → ℕ → Lowest
-room_fault room due = pick (ltb room due) (At 0) Nowhere
+room_fault room due = pick (ltb room due) (Some 0) None
 
 -- ---- the calls
 
@@ -124,7 +121,7 @@ unpack_of sampler file words =
     let count = count_in sampler (header_of sampler file) in
     unless 18 (file_fault sampler file) words
     (unless 21 (room_fault (length words) count) words
-    (filled (Done count) (sets words 0 (words_of sampler file))))
+    (filled (Ok count) (sets words 0 (words_of sampler file))))
 
 -- Packing: refusals 18, 19 and 21; else header and data, and what lies past them is kept.
 unfoldable pub pack_of : Sampler → List ℕ → List ℤ → List ℕ → Filled ℕ
@@ -134,7 +131,7 @@ pack_of sampler header words output =
     unless 18 (header_fault sampler header (length words)) output
     (unless 19 (range_fault sampler words) output
     (unless 21 (room_fault (length output) due) output
-    (filled (Done due) (splice output 0 (header ++ packed sampler words)))))
+    (filled (Ok due) (splice output 0 (header ++ packed sampler words)))))
 
 -- ---- what unpacking and packing need to undo each other
 

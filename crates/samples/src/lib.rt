@@ -13,7 +13,7 @@ ghost use Rattle.laws.specs.Refusals.{filled};
 ghost use Rattle.samples.specs.Samples.{header_size, count_offset, table_of, data_size, is_whole, packed1000, unpacked1000, packed, unpacked, head_fault, file_fault, header_fault, is_short, is_outside, range_fault, unpack_of, pack_of};
 
 use headers::Table;
-use laws::{Counted, Lowest};
+use laws::Refusal;
 
 #[derive(Clone, Copy)]
 pub enum Sampler {
@@ -27,13 +27,13 @@ pub enum Sampler {
 fn first_word(pair: u16) -> i16
     ensures { result ≡ word_of 4096 (pair / 16) }
 {
-    words::word12(pair / 16)
+    words::word::<12>(pair / 16)
 }
 
 fn second_word(upper: u8, pair: u16) -> i16
     ensures { result ≡ word_of 4096 (16 * upper + pair % 16) }
 {
-    words::word12(16 * (upper as u16) + pair % 16)
+    words::word::<12>(16 * (upper as u16) + pair % 16)
 }
 
 // Fills the first half of the words of S900 data, the second half, and both. A loop for each half has no branch, and a pair of bytes read as one
@@ -44,7 +44,7 @@ fn fill_first(source: &[u8], half: usize, words: &mut [i16])
 {
     let mut i: usize = 0;
     while i < half {
-        let word = first_word(blocks::number2(source, 2 * i) as u16);
+        let word = first_word(blocks::number::<2>(source, 2 * i) as u16);
         words[i] = word;
         i += 1;
     }
@@ -56,7 +56,7 @@ fn fill_second(source: &[u8], half: usize, words: &mut [i16])
 {
     let mut i: usize = 0;
     while i < half {
-        let word = second_word(source[2 * half + i], blocks::number2(source, 2 * i) as u16);
+        let word = second_word(source[2 * half + i], blocks::number::<2>(source, 2 * i) as u16);
         words[half + i] = word;
         i += 1;
     }
@@ -77,7 +77,7 @@ fn fill1000(source: &[u8], count: usize, words: &mut [i16])
 {
     let mut i: usize = 0;
     while i < count {
-        let word = words::word16(blocks::number2(source, 2 * i) as u16);
+        let word = words::word::<16>(blocks::number::<2>(source, 2 * i) as u16);
         words[i] = word;
         i += 1;
     }
@@ -89,13 +89,13 @@ fn fill1000(source: &[u8], count: usize, words: &mut [i16])
 fn low_byte(first: i16, second: i16) -> u8
     ensures { result ≡ 16 * (bits_of 4096 first % 16) + bits_of 4096 second % 16 }
 {
-    (16 * (words::bits12(first) % 16) + words::bits12(second) % 16) as u8
+    (16 * (words::bits::<12>(first) % 16) + words::bits::<12>(second) % 16) as u8
 }
 
 fn high_byte(word: i16) -> u8
     ensures { result ≡ bits_of 4096 word / 16 }
 {
-    (words::bits12(word) / 16) as u8
+    (words::bits::<12>(word) / 16) as u8
 }
 
 // Stores the pairs of bytes of S900 data from an offset on, the upper bytes of the second half, and both one after the other.
@@ -139,7 +139,7 @@ fn store1000(words: &[i16], out: &mut [u8], at: usize)
     let count = words.len();
     let mut i: usize = 0;
     while i < count {
-        blocks::store2(out, at + 2 * i, words::bits16(words[i]) as usize);
+        blocks::store::<2>(out, at + 2 * i, words::bits::<16>(words[i]) as usize);
         i += 1;
     }
 }
@@ -223,7 +223,7 @@ fn count_in(sampler: Sampler, header: &[u8]) -> usize
     requires { length header.now ≡ header_size sampler }
     ensures { Number 4 (bytes header.now) (count_offset sampler) result }
 {
-    blocks::number4(header, count_offset(sampler))
+    blocks::number::<4>(header, count_offset(sampler))
 }
 
 // Whether a number of words is one that the sampler has, and what it makes due is what there is.
@@ -237,22 +237,22 @@ fn is_right(sampler: Sampler, count: usize, there: usize, due: usize) -> bool
 }
 
 // Where refusal 18 finds a fault: in a header whose number of words is right or not, in a file, and in a header to pack.
-fn head_fault(sampler: Sampler, header: &[u8], right: bool) -> Lowest
+fn head_fault(sampler: Sampler, header: &[u8], right: bool) -> Option<usize>
     ensures { result ≡ head_fault sampler header.now right }
 {
     if right {
         return headers::fault(header, 0, table_of(sampler));
     }
-    Lowest::At(count_offset(sampler))
+    Some(count_offset(sampler))
 }
 
-fn file_fault(sampler: Sampler, file: &[u8]) -> Lowest
+fn file_fault(sampler: Sampler, file: &[u8]) -> Option<usize>
     ensures { result ≡ file_fault sampler file.now }
 {
     let size = header_size(sampler);
     let there = file.len();
     if there < size {
-        return Lowest::At(0);
+        return Some(0);
     }
     let header = &file[0..size];
     let count = count_in(sampler, header);
@@ -260,11 +260,11 @@ fn file_fault(sampler: Sampler, file: &[u8]) -> Lowest
     head_fault(sampler, header, is_right(sampler, count, there, due))
 }
 
-fn header_fault(sampler: Sampler, header: &[u8], given: usize) -> Lowest
+fn header_fault(sampler: Sampler, header: &[u8], given: usize) -> Option<usize>
     ensures { result ≡ header_fault sampler header.now given }
 {
     if header.len() != header_size(sampler) {
-        return Lowest::At(0);
+        return Some(0);
     }
     let count = count_in(sampler, header);
     head_fault(sampler, header, is_right(sampler, count, count, given))
@@ -287,7 +287,7 @@ fn are_short(words: &[i16]) -> bool
 }
 
 // The lowest word that 12 bits do not hold.
-fn lowest_outside(words: &[i16]) -> Lowest
+fn lowest_outside(words: &[i16]) -> Option<usize>
     ensures { result ≡ lowest (is_outside words.now) 0 (length words.now) }
 {
     let count = words.len();
@@ -296,70 +296,64 @@ fn lowest_outside(words: &[i16]) -> Lowest
         if words::is_short(words[i]) {
             i += 1;
         } else {
-            return Lowest::At(i);
+            return Some(i);
         }
     }
-    Lowest::Nowhere
+    None
 }
 
 // Where refusal 19 finds a fault.
-fn range_fault(sampler: Sampler, words: &[i16]) -> Lowest
+fn range_fault(sampler: Sampler, words: &[i16]) -> Option<usize>
     ensures { result ≡ range_fault sampler words.now }
 {
     match sampler {
         Sampler::S900 => {
             if are_short(words) {
-                return Lowest::Nowhere;
+                return None;
             }
             lowest_outside(words)
         }
-        Sampler::S1000 => Lowest::Nowhere,
+        Sampler::S1000 => None,
     }
 }
 
 // ---- the calls
 
 // Fills the words of a sample file into a lent array, and gives their number.
-pub fn unpack(sampler: Sampler, file: &[u8], words: &mut [i16]) -> Counted
+pub fn unpack(sampler: Sampler, file: &[u8], words: &mut [i16]) -> Result<usize, Refusal>
     ensures { filled result words.new ≡ unpack_of sampler file.now words.old }
 {
     let fault = file_fault(sampler, file);
-    if let Lowest::At(place) = fault {
-        return Counted::Refused(laws::Refusal { number: 18, place });
+    if let Some(place) = fault {
+        return Err(Refusal::BadSample(place));
     }
     let size = header_size(sampler);
     let count = count_in(sampler, &file[0..size]);
     if words.len() < count {
-        return Counted::Refused(laws::Refusal {
-            number: 21,
-            place: 0,
-        });
+        return Err(Refusal::OutputTooShort);
     }
     fill(sampler, &file[size..], count, words);
-    Counted::Done(count)
+    Ok(count)
 }
 
 // Stores the sample file of a header and words, and gives the file's length.
-pub fn pack(sampler: Sampler, header: &[u8], words: &[i16], out: &mut [u8]) -> Counted
+pub fn pack(sampler: Sampler, header: &[u8], words: &[i16], out: &mut [u8]) -> Result<usize, Refusal>
     ensures { filled result out.new ≡ pack_of sampler header.now words.now out.old }
 {
     let fault = header_fault(sampler, header, words.len());
-    if let Lowest::At(place) = fault {
-        return Counted::Refused(laws::Refusal { number: 18, place });
+    if let Some(place) = fault {
+        return Err(Refusal::BadSample(place));
     }
     let outside = range_fault(sampler, words);
-    if let Lowest::At(place) = outside {
-        return Counted::Refused(laws::Refusal { number: 19, place });
+    if let Some(place) = outside {
+        return Err(Refusal::WordOutside(place));
     }
     let size = header_size(sampler);
     let due = size + data_size(sampler, count_in(sampler, header));
     if out.len() < due {
-        return Counted::Refused(laws::Refusal {
-            number: 21,
-            place: 0,
-        });
+        return Err(Refusal::OutputTooShort);
     }
     blocks::copy_part(header, 0, out, 0, size);
     store(sampler, words, out, size);
-    Counted::Done(due)
+    Ok(due)
 }

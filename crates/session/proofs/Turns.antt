@@ -7,8 +7,7 @@ use Rattle.layout.specs.declared.Density.{Density}
 use Rattle.layout.specs.Layouts.{layout_of}
 use Rattle.image.specs.Image.{files_in}
 use Rattle.record.specs.Record.{Call, Turn}
-use Rattle.rules.specs.declared.Checked.TheVariants.{Accepted}
-use Rattle.rules.specs.Check.{check_of, call_of}
+use Rattle.rules.specs.Check.{check_of, call_of, accepting}
 use Rattle.rules.specs.Demand.{Ran, Behaves}
 use Rattle.rules.proofs.Demand.{demand_3}
 use Rattle.session.specs.Script.{run_of, entries}
@@ -24,7 +23,7 @@ ran script pool zero k img out = tt
 ran script pool (suc n) k img out = ran_on img (call_at script pool k out) _ (λ c. ran script pool n (suc k) (call_of img c).state (written_by out k (call_of img c)))
 
 -- Take any accepted image and any script, pool and output: the run leaves what its turns leave, and after each of them all is the record's.
-pub script_serves : (k : Kind) (d : Density) (f n : ℕ) (img script pool out : List ℕ) → check_of img ≡ Accepted k d f n
+pub script_serves : (k : Kind) (d : Density) (f n : ℕ) (img script pool out : List ℕ) → check_of img ≡ accepting k d f n
     → let ts = turns script pool (entries script out) 0 img out in
     (run_of img script pool out ≡ leave out 0 img ts) × Behaves k d img (files_in (layout_of k d) img) ts
 script_serves k d f n img script pool out e =

@@ -5,8 +5,11 @@ ghost use Rattle.std.specs.Prelude.{◌≡◌, ◌≤◌, length};
 ghost use Rattle.laws.specs.Splice.{splice, part};
 ghost use Rattle.record.specs.Record.{refused_by, paged};
 ghost use Rattle.rules.specs.Check.{call_of};
-ghost use Rattle.calls.specs.Answers.{found_of, paged_of, listed_of, removed_of, list_call, find_call, page_call, put_call, remove_call};
+ghost use Rattle.calls.specs.Answers.{found_of, paged_of, listed_of, removed_of, list_call, find_call, page_call, put_call, remove_call, name_in};
 ghost use Rattle.session.specs.Script.{fits, flag, reply_with, reply_of, reply_bytes, shown_by, after_entry, put_entry, named_entry, entered_by, entered, after_run, run_of};
+
+use calls::{Entry, Piece};
+use laws::Refusal;
 
 // An answer with the fields of all answers: refusal or 0, place or value, type, whether the end is reached, name.
 #[derive(Clone, Copy)]
@@ -19,12 +22,12 @@ pub struct Reply {
 }
 
 // A refusal's reply.
-fn refused_reply(refusal: laws::Refusal) -> Reply
+fn refused_reply(refusal: Refusal) -> Reply
     ensures { result ≡ reply_of (refused_by refusal) }
 {
     Reply {
-        number: refusal.number as usize,
-        value: refusal.place,
+        number: refusal.number() as usize,
+        value: refusal.place(),
         letter: 0,
         end: false,
         name: [0; 12],
@@ -44,57 +47,48 @@ fn value_reply(value: usize, end: bool) -> Reply
     }
 }
 
-fn listed_reply(listed: calls::Listed) -> Reply
-    ensures { result ≡ reply_with (listed_of listed) listed.name }
+fn listed_reply(listed: Result<Entry, Refusal>) -> Reply
+    ensures { result ≡ reply_with (listed_of listed) (name_in listed) }
 {
-    let entry = listed.entry;
-    let name = listed.name;
-    match entry {
-        calls::Entry::File {
-            letters: _,
-            letter,
-            length,
-        } => Reply {
-            number: 0,
-            value: length,
-            letter,
-            end: false,
-            name,
-        },
-        calls::Entry::Refused(refusal) => Reply {
-            number: refusal.number as usize,
-            value: refusal.place,
-            letter: 0,
-            end: false,
-            name,
-        },
+    match listed {
+        Ok(entry) => {
+            let name = entry.name;
+            Reply {
+                number: 0,
+                value: entry.length,
+                letter: entry.letter,
+                end: false,
+                name,
+            }
+        }
+        Err(refusal) => refused_reply(refusal),
     }
 }
 
-fn found_reply(found: calls::Found) -> Reply
+fn found_reply(found: Result<usize, Refusal>) -> Reply
     ensures { result ≡ reply_of (found_of found) }
 {
     match found {
-        calls::Found::At(slot) => value_reply(slot, false),
-        calls::Found::Refused(refusal) => refused_reply(refusal),
+        Ok(slot) => value_reply(slot, false),
+        Err(refusal) => refused_reply(refusal),
     }
 }
 
-fn paged_reply(paged: calls::Paged) -> Reply
+fn paged_reply(paged: Result<Piece, Refusal>) -> Reply
     ensures { result ≡ reply_of (paged_of paged) }
 {
     match paged {
-        calls::Paged::Page { count, end } => value_reply(count, end),
-        calls::Paged::Refused(refusal) => refused_reply(refusal),
+        Ok(piece) => value_reply(piece.count, piece.end),
+        Err(refusal) => refused_reply(refusal),
     }
 }
 
-fn removed_reply(removed: calls::Removed) -> Reply
+fn removed_reply(removed: Result<(), Refusal>) -> Reply
     ensures { result ≡ reply_of (removed_of removed) }
 {
     match removed {
-        calls::Removed::Done => value_reply(0, false),
-        calls::Removed::Refused(refusal) => refused_reply(refusal),
+        Ok(()) => value_reply(0, false),
+        Err(refusal) => refused_reply(refusal),
     }
 }
 
@@ -119,8 +113,8 @@ fn write_reply(shown: &mut [u8], reply: Reply)
 {
     let name = reply.name;
     let end = reply.end;
-    blocks::store3(shown, 0, reply.number);
-    blocks::store3(shown, 3, reply.value);
+    blocks::store::<3>(shown, 0, reply.number);
+    blocks::store::<3>(shown, 3, reply.value);
     shown[6] = reply.letter;
     shown[7] = flag_of(end);
     write_name(shown, name);
@@ -187,8 +181,8 @@ fn run_put(image: &mut [u8], name: &[u8], entry: &[u8], pool: &[u8], shown: &mut
     requires { (length entry.now ≡ 20) × (1044 ≤ length shown.old) }
     ensures { after_entry result shown.new image.new ≡ entered_by (put_entry name.now entry.now pool.now) image.old shown.old }
 {
-    let at = blocks::number4(entry, 12);
-    let size = blocks::number4(entry, 16);
+    let at = blocks::number::<4>(entry, 12);
+    let size = blocks::number::<4>(entry, 16);
     if !is_in(pool.len(), at, size) {
         return false;
     }
@@ -223,8 +217,8 @@ fn run_entry(image: &mut [u8], entry: &[u8], pool: &[u8], shown: &mut [u8]) -> b
     ensures { after_entry result shown.new image.new ≡ entered image.old entry.now pool.now shown.old }
 {
     let op = entry[0];
-    let a = blocks::number4(entry, 4);
-    let b = blocks::number4(entry, 8);
+    let a = blocks::number::<4>(entry, 4);
+    let b = blocks::number::<4>(entry, 8);
     if op == 0 {
         make_list(image, a, shown);
         return true;

@@ -1,6 +1,6 @@
 -- Demand 3 as C sees it: calls of its functions, made one after another on an accepted image, behave as the plain record, after each call.
 -- A result has every field of the answer, so it tells the answer whole (`told_made`). Assumes nothing.
-use Rattle.std.specs.Prelude.{◌≡◌, Bool, true, false, List, [], ◌∷◌, ℕ, ◌<◌, ltb, length}
+use Rattle.std.specs.Prelude.{◌≡◌, Bool, true, false, List, [], ◌∷◌, ℕ, ◌<◌, ltb, length, Ok, Err}
 use Rattle.std.proofs.Math.Path.{refl, ap}
 use Rattle.std.proofs.Common.{sym, ◌∙◌, arith, ne_eqb}
 use Rattle.std.proofs.Math.Option.{Option, none, some}
@@ -17,14 +17,11 @@ use Rattle.layout.proofs.Right.{layout_right}
 use Rattle.names.specs.NameLaws.{length-name}
 use Rattle.view.specs.Disk.{File, used}
 use Rattle.image.specs.Image.{entry_at, view_of, files_in}
-use Rattle.record.specs.Record.{shape_of, Files, Call, check, list, find, page, put, remove, salvage, Answer, Outcome, file_at, judge_name, judge_put, listing, finding, paging, putting, removing, salvaging, step_files}
+use Rattle.record.specs.Record.{shape_of, Files, Call, check, list, find, page, put, remove, salvage, Answer, Outcome, file_at, judge_name, judge_put, listing, finding, paging, putting, removing, salvaging, step_files, Judged}
 use Rattle.record.specs.Step.{image_after, step_image}
 use Rattle.record.specs.Lemmas.Step.{list_output, find_output, put_output, remove_output}
-use Rattle.record.specs.declared.Judged.{Judged}
-use Rattle.record.specs.declared.Judged.TheVariants.{Refuse, Grant}
-use Rattle.rules.specs.declared.Checked.TheVariants.{Accepted}
-use Rattle.rules.specs.Check.{check_of, call_of, Made}
-use Rattle.rules.proofs.Accepted.{accepted-rules}
+use Rattle.rules.specs.Check.{check_of, call_of, Made, accepting}
+use Rattle.rules.proofs.Accepts.{accepted-rules}
 use Rattle.rules.specs.Small.{Numbered}
 use Rattle.rules.proofs.Small.{refusal_numbered}
 use Rattle.rules.specs.Demand.{Ran, Behaves}
@@ -32,11 +29,12 @@ use Rattle.rules.proofs.Demand.{call_is, demand_3}
 use Rattle.calls.specs.Lemmas.Slots.{slot_file, file_above, file_empty, file-used}
 use Rattle.skilletjay.specs.Results.{checked_result, listed_result, found_result, paged_result, done_result, changed_result}
 use Rattle.skilletjay.specs.Told.{CTurn, checked, listed, found, paged, placed, removed, salvaged, told_of, refusal_in, checked_in, listed_in, found_in, paged_in, done_in, changed_in, turn_in, CRan, turns_in}
+use Rattle.laws.specs.Refusals.{number_of, place_of}
 
 -- ---- each answer is what the result tells of it
 
-told_refused : (r : Refusal) → Numbered r → refusal_in r.number r.place ≡ some r
-told_refused r h = rw (ne_eqb r.number 0 (λ e. omega (arith, h.some))) refl
+told_refused : (r : Refusal) → Numbered r → refusal_in (number_of r) (place_of r) ≡ some r
+told_refused r h = rw (ne_eqb (number_of r) 0 (λ e. omega (arith, h.some))) refl
 
 -- the refusals of an answer are numbered
 abbrev Told_of : Answer → Type 0
@@ -44,16 +42,16 @@ Told_of a = (r : Refusal) → a.refusal ≡ some r → Numbered r
 
 module _ (files : Files) where
   found_back : (j : Judged) → Told_of (finding files j).answer → found_in (found_result (finding files j).answer) ≡ (finding files j).answer
-  found_back (Refuse r) h = rw (told_refused r (h r refl)) refl
-  found_back (Grant s) h = refl
+  found_back (Err r) h = rw (told_refused r (h r refl)) refl
+  found_back (Ok s) h = refl
 
   placed_back : (next : ℕ → Files) (j : Judged) → Told_of (putting files next j).answer → found_in (found_result (putting files next j).answer) ≡ (putting files next j).answer
-  placed_back next (Refuse r) h = rw (told_refused r (h r refl)) refl
-  placed_back next (Grant s) h = refl
+  placed_back next (Err r) h = rw (told_refused r (h r refl)) refl
+  placed_back next (Ok s) h = refl
 
   removed_back : (next : ℕ → Files) (j : Judged) → Told_of (removing files next j).answer → done_in (done_result (removing files next j).answer) ≡ (removing files next j).answer
-  removed_back next (Refuse r) h = rw (told_refused r (h r refl)) refl
-  removed_back next (Grant s) h = refl
+  removed_back next (Err r) h = rw (told_refused r (h r refl)) refl
+  removed_back next (Ok s) h = refl
 
   paged_back : (w : Option File) (offset : ℕ) (out : List ℕ) → paged_in (paged_result (paging files w offset out).answer) ≡ (paging files w offset out).answer
   paged_back none offset out = refl
@@ -74,7 +72,7 @@ module _ (files : Files) where
   listed_back l none h = refl
   listed_back l (some f) h = rw (← h f refl, take-padded f.name 12) refl
 
-module _ (k : Kind) (d : Density) (f n : ℕ) (img : List ℕ) (accepts : check_of img ≡ Accepted k d f n) where
+module _ (k : Kind) (d : Density) (f n : ℕ) (img : List ℕ) (accepts : check_of img ≡ accepting k d f n) where
   abbrev l : Layout
   l = layout_of k d
 
@@ -161,7 +159,7 @@ module _ (k : Kind) (d : Density) (f n : ℕ) (img : List ℕ) (accepts : check_
 
 -- ---- sequences
 
-told_ran : (k : Kind) (d : Density) (ts : List CTurn) (f n : ℕ) (img : List ℕ) → check_of img ≡ Accepted k d f n → CRan (layout_of k d) img ts → Ran img (turns_in (layout_of k d) img ts)
+told_ran : (k : Kind) (d : Density) (ts : List CTurn) (f n : ℕ) (img : List ℕ) → check_of img ≡ accepting k d f n → CRan (layout_of k d) img ts → Ran img (turns_in (layout_of k d) img ts)
 told_ran k d [] f n img accepts ran = tt
 told_ran k d (t ∷ ts) f n img accepts ran =
     let made = told_made k d f n img accepts t ran.0 in
@@ -169,6 +167,6 @@ told_ran k d (t ∷ ts) f n img accepts ran =
     (made, told_ran k d ts _ _ (turn_in (layout_of k d) img t).after after ran.1)
 
 -- Demand 3 for C: whatever calls of its functions are made on an accepted image, refused ones too, after each of them all is the record's.
-pub demand_3_c : (k : Kind) (d : Density) (f n : ℕ) (img : List ℕ) → check_of img ≡ Accepted k d f n → (ts : List CTurn) → CRan (layout_of k d) img ts
+pub demand_3_c : (k : Kind) (d : Density) (f n : ℕ) (img : List ℕ) → check_of img ≡ accepting k d f n → (ts : List CTurn) → CRan (layout_of k d) img ts
     → Behaves k d img (files_in (layout_of k d) img) (turns_in (layout_of k d) img ts)
 demand_3_c k d f n img accepts ts ran = demand_3 k d f n img accepts (turns_in (layout_of k d) img ts) (told_ran k d ts f n img accepts ran)

@@ -1,24 +1,20 @@
 -- The calls that answer a count, and that a refused one changes nothing, as for the calls on a disk (demand 1).
 -- Each refusal keeps the output that was lent; only a call that is done writes to it. Assumes nothing.
-use Rattle.std.specs.Prelude.{◌≡◌, refl, Bool, true, false, List, [], ◌∷◌, ℕ, ◌+◌, ltb, ℤ, length}
+use Rattle.std.specs.Prelude.{◌≡◌, refl, Bool, true, false, List, [], ◌∷◌, ℕ, ◌+◌, ltb, ℤ, length, Ok, None, Some, Err}
 use Rattle.std.proofs.Common.{ap, ◌∙◌, arith}
 use Rattle.laws.specs.Truth.{pick}
-use Rattle.laws.specs.declared.Lowest.{Lowest}
-use Rattle.laws.specs.declared.Lowest.TheVariants.{At, Nowhere}
 use Rattle.laws.specs.Refusals.{refusal_at, Filled, filled, Keeps}
 use Rattle.laws.specs.Lemmas.Refusals.{keeps-refused, keeps-done, keeps-unless}
 use Rattle.layout.specs.Layouts.{layout_of}
 use Rattle.record.specs.Record.{check, Answer}
-use Rattle.rules.specs.declared.Checked.{Checked}
-use Rattle.rules.specs.declared.Checked.TheVariants.{Accepted}
-use Rattle.rules.specs.declared.Checked.TheVariants as checks
-use Rattle.rules.specs.Check.{check_of, answer_of}
+use Rattle.rules.specs.Check.{check_of, answer_of, Checked}
 use Rattle.rules.proofs.Demand.{check_call}
 use Rattle.rules.proofs.Small.{refusal_numbered}
 use Rattle.locate.specs.Locate.{file_blocks, storing, blocks_by, blocks_of}
 use Rattle.samples.specs.declared.Sampler.{Sampler}
 use Rattle.samples.specs.Samples.{file_fault, header_fault, range_fault, room_fault, unpack_of, pack_of}
 use Rattle.program.specs.Program.{keygroups_of, parts_fault, counted, refused_at, answer_of as programAnswer, program_of}
+use Rattle.laws.specs.Scan.{Lowest}
 
 -- The calls with their arguments, the lent output last; the check of a program is lent none.
 pub data Counting : Type 0 where
@@ -51,8 +47,8 @@ counting_of (blocks img slot out) = blocks_of img slot out
 
 program_kept : (n : ℕ) (short right : Bool) (w : Lowest) → Keeps {A = ℕ} [] (filled (pick short (refused_at 0) (pick right (programAnswer n w) (refused_at 42))) [])
 program_kept n true right w = keeps-refused (refusal_at 20 0) [] (omega arith)
-program_kept n false true (At place) = keeps-refused (refusal_at 20 place) [] (omega arith)
-program_kept n false true Nowhere = keeps-done n [] []
+program_kept n false true (Some place) = keeps-refused (refusal_at 20 place) [] (omega arith)
+program_kept n false true None = keeps-done n [] []
 program_kept n false false w = keeps-refused (refusal_at 20 42) [] (omega arith)
 
 storing_kept : (bs out : List ℕ) → Keeps out (storing bs out)
@@ -64,8 +60,8 @@ storing_kept (b ∷ bs) out = go (ltb (length out) (length (b ∷ bs))) refl
     go false e = rw e (keeps-done (length (b ∷ bs)) out _)
 
 blocks_kept : (img : List ℕ) (s : ℕ) (out : List ℕ) (w : Checked) → check_of img ≡ w → Keeps out (blocks_by w img s out)
-blocks_kept img s out (Accepted k d f n) e = storing_kept (file_blocks (layout_of k d) img s) out
-blocks_kept img s out (checks.Refused r) e =
+blocks_kept img s out (Ok disk) e = storing_kept (file_blocks (layout_of disk.kind disk.density) img s) out
+blocks_kept img s out (Err r) e =
     keeps-refused r out (refusal_numbered img check r (ap (λ (a : Answer). a.refusal) (check_call img) ∙ ap (λ (c : Checked). (answer_of c).refusal) e)).some
 
 -- A refused call leaves its output as it was lent, and its number isn't 0.

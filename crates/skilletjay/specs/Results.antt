@@ -1,28 +1,25 @@
 -- What C gets of each answer (include/skilletjay.h): `refusal` is 0 where the call was done, else its number; then `place` is its place and
 -- every other field is 0, as in the answer. Assumes nothing.
-use Rattle.std.specs.Prelude.{◌≡◌, refl, List, ℕ}
+use Rattle.std.specs.Prelude.{◌≡◌, refl, List, ℕ, Ok, Err}
 use Rattle.laws.specs.Padded.{padded}
 use Rattle.layout.specs.declared.Kind.{Kind}
 use Rattle.layout.specs.declared.Density.{Density}
 use Rattle.record.specs.Record.{Answer, number_in, place_or, kind_number, density_number}
-use Rattle.rules.specs.declared.Checked.{Checked}
-use Rattle.rules.specs.declared.Checked.TheVariants.{Accepted}
-use Rattle.rules.specs.Check.{answer_of}
+use Rattle.rules.specs.Check.{answer_of, Checked, accepting}
 use Rattle.calls.specs.Answers.{counted_of}
 use Rattle.skilletjay.specs.declared.CChecked.{CChecked}
 use Rattle.skilletjay.specs.declared.CListed.{CListed}
 use Rattle.skilletjay.specs.declared.CFound.{CFound}
 use Rattle.skilletjay.specs.declared.CPaged.{CPaged}
-use Rattle.laws.specs.declared.Counted.{Counted}
-use Rattle.laws.specs.declared.Counted.TheVariants.{Done, Refused}
 use Rattle.skilletjay.specs.declared.CDone.{CDone}
 use Rattle.skilletjay.specs.declared.CCounted.{CCounted}
+use Rattle.laws.specs.Refusals.{Counted, number_of, place_of}
 
 abbrev pub checked_result : Answer → CChecked
 checked_result a = record { refusal = number_in a.refusal; place = place_or a.refusal 0; kind = a.kind; density = a.density; files = a.value; free = a.free }
 
 -- an accepted image's result from its numbers
-pub accepted_result : {w : Checked} {k : Kind} {d : Density} {f n x y : ℕ} → w ≡ Accepted k d f n → x ≡ kind_number k → y ≡ density_number d
+pub accepted_result : {w : Checked} {k : Kind} {d : Density} {f n x y : ℕ} → w ≡ accepting k d f n → x ≡ kind_number k → y ≡ density_number d
     → record { refusal = 0; place = 0; kind = x; density = y; files = f; free = n } ≡ checked_result (answer_of w)
 accepted_result e p q = rw (e, p, q) refl
 
@@ -51,10 +48,10 @@ changed_result a = record { refusal = number_in a.refusal; place = place_or a.re
 
 -- a count: a file's blocks, calls on sample and program files
 abbrev pub counted_result : Counted → CCounted
-counted_result (Done count) = record { refusal = 0; place = 0; count = count }
-counted_result (Refused r) = record { refusal = r.number; place = r.place; count = 0 }
+counted_result (Ok count) = record { refusal = 0; place = 0; count = count }
+counted_result (Err r) = record { refusal = number_of r; place = place_of r; count = 0 }
 
 -- the two agree
 pub changed_counted : (c : Counted) → counted_result c ≡ changed_result (counted_of c)
-changed_counted (Done count) = refl
-changed_counted (Refused r) = refl
+changed_counted (Ok count) = refl
+changed_counted (Err r) = refl

@@ -4,7 +4,7 @@ use Rattle.std.specs.Prelude.{◌≡◌, false, List, [], ◌∷◌, ℕ, eqb, t
 use Rattle.std.proofs.Math.Option.{Option, none, some}
 use Rattle.laws.specs.Truth.{pick}
 use Rattle.laws.specs.declared.Refusal.{Refusal}
-use Rattle.laws.specs.Refusals.{refusal_at}
+use Rattle.laws.specs.Refusals.{refusal_at, number_of, place_of}
 use Rattle.layout.specs.declared.Layout.{Layout}
 use Rattle.record.specs.Record.{Call, check, list, find, page, put, remove, salvage, Answer, Turn}
 use Rattle.rules.specs.Check.{call_of}
@@ -43,13 +43,13 @@ told_of img (salvage lent) = salvaged lent (changed_result (call_of img (salvage
 
 -- A refused call: the refusal's number and place, 0 in every other field, and all that was lent as it was.
 abbrev pub refused_turn : List ℕ → Call → Refusal → CTurn
-refused_turn img check r = checked (record { refusal = r.number; place = r.place; kind = 0; density = 0; files = 0; free = 0 })
-refused_turn img (list slot) r = listed slot (record { refusal = r.number; place = r.place; name = replicate 12 0; letter = 0; length = 0 })
-refused_turn img (find name type) r = found name type (record { refusal = r.number; place = r.place; slot = 0 })
-refused_turn img (page slot offset lent) r = paged slot offset lent (record { refusal = r.number; place = r.place; count = 0; end = false }) lent
-refused_turn img (put name type content) r = placed name type content (record { refusal = r.number; place = r.place; slot = 0 }) img
-refused_turn img (remove name type) r = removed name type (record { refusal = r.number; place = r.place }) img
-refused_turn img (salvage lent) r = salvaged lent (record { refusal = r.number; place = r.place; count = 0 }) lent img
+refused_turn img check r = checked (record { refusal = number_of r; place = place_of r; kind = 0; density = 0; files = 0; free = 0 })
+refused_turn img (list slot) r = listed slot (record { refusal = number_of r; place = place_of r; name = replicate 12 0; letter = 0; length = 0 })
+refused_turn img (find name type) r = found name type (record { refusal = number_of r; place = place_of r; slot = 0 })
+refused_turn img (page slot offset lent) r = paged slot offset lent (record { refusal = number_of r; place = place_of r; count = 0; end = false }) lent
+refused_turn img (put name type content) r = placed name type content (record { refusal = number_of r; place = place_of r; slot = 0 }) img
+refused_turn img (remove name type) r = removed name type (record { refusal = number_of r; place = place_of r }) img
+refused_turn img (salvage lent) r = salvaged lent (record { refusal = number_of r; place = place_of r; count = 0 }) lent img
 
 -- ---- the answer that a result tells
 

@@ -4,7 +4,7 @@
 ghost use Rattle.std.specs.Prelude.{◌≡◌};
 ghost use Rattle.record.specs.Record.{check, list, find, page, put, remove, salvage, kind_number, density_number};
 ghost use Rattle.rules.specs.Check.{answer_of};
-ghost use Rattle.calls.specs.Answers.{found_of, paged_of, listed_of, removed_of};
+ghost use Rattle.calls.specs.Answers.{found_of, paged_of, listed_of, removed_of, name_in};
 ghost use Rattle.locate.specs.Locate.{blocks_of};
 ghost use Rattle.session.specs.Script.{after_run, run_of};
 ghost use Rattle.samples.specs.Samples.{unpack_of, pack_of};
@@ -12,6 +12,9 @@ ghost use Rattle.program.specs.Program.{program_of};
 ghost use Rattle.skilletjay.specs.Told.{told_of, checked, listed, found, paged, placed, removed, salvaged};
 ghost use Rattle.skilletjay.specs.Results.{checked_result, listed_with, found_result, paged_result, done_result, counted_result};
 
+use calls::{Entry, Piece};
+use laws::Refusal;
+use rules::Accepted;
 use samples::Sampler;
 
 // sj_checked: kind 900 or 1000, density 0 low or 1 high, the number of files and of free blocks.
@@ -95,26 +98,21 @@ fn density_number(density: layout::Density) -> u32
 }
 
 // What C gets of the check.
-fn checked_result(checked: rules::Checked) -> CChecked
+fn checked_result(checked: Result<Accepted, Refusal>) -> CChecked
     ensures { result ≡ checked_result (answer_of checked) }
 {
     match checked {
-        rules::Checked::Accepted {
-            kind,
-            density,
-            files,
-            free,
-        } => CChecked {
+        Ok(disk) => CChecked {
             refusal: 0,
             place: 0,
-            kind: kind_number(kind),
-            density: density_number(density),
-            files,
-            free,
+            kind: kind_number(disk.kind),
+            density: density_number(disk.density),
+            files: disk.files,
+            free: disk.free,
         },
-        rules::Checked::Refused(refusal) => CChecked {
-            refusal: refusal.number,
-            place: refusal.place,
+        Err(refusal) => CChecked {
+            refusal: refusal.number(),
+            place: refusal.place(),
             kind: 0,
             density: 0,
             files: 0,
@@ -124,65 +122,62 @@ fn checked_result(checked: rules::Checked) -> CChecked
 }
 
 // What C gets of a listing. Its 12 bytes are zeros but for the name (`Lists`).
-fn listed_result(listed: calls::Listed) -> CListed
-    ensures { result ≡ listed_with (listed_of listed) listed.name }
+fn listed_result(listed: Result<Entry, Refusal>) -> CListed
+    ensures { result ≡ listed_with (listed_of listed) (name_in listed) }
 {
-    let entry = listed.entry;
-    let name = listed.name;
-    match entry {
-        calls::Entry::File {
-            letters: _,
-            letter,
-            length,
-        } => CListed {
-            refusal: 0,
-            place: 0,
-            name,
-            letter,
-            length,
-        },
-        calls::Entry::Refused(refusal) => CListed {
-            refusal: refusal.number,
-            place: refusal.place,
-            name,
+    match listed {
+        Ok(entry) => {
+            let name = entry.name;
+            CListed {
+                refusal: 0,
+                place: 0,
+                name,
+                letter: entry.letter,
+                length: entry.length,
+            }
+        }
+        Err(refusal) => CListed {
+            refusal: refusal.number(),
+            place: refusal.place(),
+            name: [0; 12],
             letter: 0,
             length: 0,
         },
     }
 }
 
-// What C gets of a find.
-fn found_result(found: calls::Found) -> CFound
+// What C gets of a find or a put.
+fn found_result(found: Result<usize, Refusal>) -> CFound
     ensures { result ≡ found_result (found_of found) }
 {
     match found {
-        calls::Found::At(slot) => CFound {
+        Ok(slot) => CFound {
             refusal: 0,
             place: 0,
             slot,
         },
-        calls::Found::Refused(refusal) => CFound {
-            refusal: refusal.number,
-            place: refusal.place,
+        Err(refusal) => CFound {
+            refusal: refusal.number(),
+            place: refusal.place(),
             slot: 0,
         },
     }
 }
 
 // What C gets of a page.
-fn paged_result(paged: calls::Paged) -> CPaged
+fn paged_result(paged: Result<Piece, Refusal>) -> CPaged
     ensures { result ≡ paged_result (paged_of paged) }
 {
     match paged {
-        calls::Paged::Page { count, end } => CPaged {
+        Ok(piece) => CPaged {
             refusal: 0,
             place: 0,
-            count,
-            end,
+            count: piece.count,
+            end: piece.end,
         },
-        calls::Paged::Refused(refusal) => CPaged {
-            refusal: refusal.number,
-            place: refusal.place,
+        Err(refusal) => CPaged {
+            refusal: refusal.number(),
+            place: refusal.place(),
             count: 0,
             end: false,
         },
@@ -190,34 +185,34 @@ fn paged_result(paged: calls::Paged) -> CPaged
 }
 
 // What C gets of a remove.
-fn done_result(removed: calls::Removed) -> CDone
+fn done_result(removed: Result<(), Refusal>) -> CDone
     ensures { result ≡ done_result (removed_of removed) }
 {
     match removed {
-        calls::Removed::Done => CDone {
+        Ok(()) => CDone {
             refusal: 0,
             place: 0,
         },
-        calls::Removed::Refused(refusal) => CDone {
-            refusal: refusal.number,
-            place: refusal.place,
+        Err(refusal) => CDone {
+            refusal: refusal.number(),
+            place: refusal.place(),
         },
     }
 }
 
 // What C gets of a call that gives a count.
-fn counted_result(counted: laws::Counted) -> CCounted
+fn counted_result(counted: Result<usize, Refusal>) -> CCounted
     ensures { result ≡ counted_result counted }
 {
     match counted {
-        laws::Counted::Done(count) => CCounted {
+        Ok(count) => CCounted {
             refusal: 0,
             place: 0,
             count,
         },
-        laws::Counted::Refused(refused) => CCounted {
-            refusal: refused.number,
-            place: refused.place,
+        Err(refused) => CCounted {
+            refusal: refused.number(),
+            place: refused.place(),
             count: 0,
         },
     }

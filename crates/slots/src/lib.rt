@@ -15,6 +15,8 @@ ghost use Rattle.slots.specs.Forms.{or_used};
 ghost use Rattle.slots.specs.Keys.{Key, has_keys};
 ghost use Rattle.slots.specs.Hashes.{has_hash_of, highest, Hash, Tops, Lowers, Turn};
 
+use laws::Refusal;
+
 // Whether a slot is used.
 pub fn is_used(head: &[u8], layout: layout::Layout, slot: usize) -> bool
     requires { slot_offset layout slot + 24 ≤ length head.now }
@@ -38,7 +40,7 @@ pub fn size_of(head: &[u8], layout: layout::Layout, slot: usize) -> usize
     ensures { result ≡ ((view_of layout (bytes head.now)).entry slot).size }
 {
     let at = layout.directory + 24 * slot;
-    blocks::number3(head, at + 17)
+    blocks::number::<3>(head, at + 17)
 }
 
 pub fn start_of(head: &[u8], layout: layout::Layout, slot: usize) -> usize
@@ -46,7 +48,7 @@ pub fn start_of(head: &[u8], layout: layout::Layout, slot: usize) -> usize
     ensures { result ≡ ((view_of layout (bytes head.now)).entry slot).start }
 {
     let at = layout.directory + 24 * slot;
-    blocks::number2(head, at + 20)
+    blocks::number::<2>(head, at + 20)
 }
 
 // Whether the first directory is passed over: its slot 0 has type byte 255 (refusal 2).
@@ -63,7 +65,7 @@ fn identity_of(head: &[u8], layout: layout::Layout, slot: usize) -> usize
     ensures { result ≡ ((view_of layout (bytes head.now)).entry slot).identity }
 {
     let at = layout.directory + 24 * slot;
-    blocks::number2(head, at + 22)
+    blocks::number::<2>(head, at + 22)
 }
 
 // Whether every slot, empty ones too, has the layout's identity (refusal 2).
@@ -77,7 +79,7 @@ pub fn has_identity(head: &[u8], layout: layout::Layout) -> bool
     let mut slot = 0;
     while slot < slots {
         let at = directory + 24 * slot;
-        if blocks::number2(head, at + 22) != identity {
+        if blocks::number::<2>(head, at + 22) != identity {
             return false;
         }
         slot += 1;
@@ -108,7 +110,7 @@ pub fn is_malformed(head: &[u8], layout: layout::Layout, slot: usize) -> bool
 }
 
 // The number of used slots, or refusal 4 at the lowest malformed one.
-pub fn count_formed(head: &[u8], layout: layout::Layout) -> laws::Counted
+pub fn count_formed(head: &[u8], layout: layout::Layout) -> Result<usize, Refusal>
     requires { LayoutRight layout × (slot_offset layout layout.slots ≤ length head.now) }
     ensures { result ≡ or_used (lowest (malformed layout (view_of layout (bytes head.now))) 0 layout.slots) (used_count layout (view_of layout (bytes head.now))) }
 {
@@ -117,17 +119,14 @@ pub fn count_formed(head: &[u8], layout: layout::Layout) -> laws::Counted
     let mut slot = 0;
     while slot < slots {
         if is_malformed(head, layout, slot) {
-            return laws::Counted::Refused(laws::Refusal {
-                number: 4,
-                place: slot,
-            });
+            return Err(Refusal::MalformedSlot(slot));
         }
         if is_used(head, layout, slot) {
             counted += 1;
         }
         slot += 1;
     }
-    laws::Counted::Done(counted)
+    Ok(counted)
 }
 
 // Half a name's area as one number: eight bytes compare at once.
@@ -135,7 +134,7 @@ pub fn key(head: &[u8], at: usize) -> usize
     requires { at + 8 ≤ length head.now }
     ensures { Key (bytes head.now) at result }
 {
-    blocks::number4(head, at) + 4294967296 * blocks::number4(head, at + 4)
+    blocks::number::<4>(head, at) + 4294967296 * blocks::number::<4>(head, at + 4)
 }
 
 // Whether the two halves of a slot's name have these keys and its type is this one. For a file's type no empty slot passes: theirs is 0.
@@ -167,7 +166,7 @@ pub fn find_keys(
     low: usize,
     high: usize,
     letter: u8,
-) -> laws::Lowest
+) -> Option<usize>
     requires { slot_offset layout layout.slots ≤ length head.now }
     ensures { result ≡ lowest (λ s. has_keys layout (bytes head.now) s low high letter) 0 layout.slots }
 {
@@ -175,11 +174,11 @@ pub fn find_keys(
     let mut slot = 0;
     while slot < end {
         if has_keys(head, layout, slot, low, high, letter) {
-            return laws::Lowest::At(slot);
+            return Some(slot);
         }
         slot += 1;
     }
-    laws::Lowest::Nowhere
+    None
 }
 
 // Half a key's bytes make a number below this.
@@ -256,7 +255,7 @@ pub fn repeats(
 
 // The lowest slot whose name and type stand in a lower used slot (refusal 5), by a table of hashes: for each hash the highest slot so far, for each slot the
 // next lower one with its hash. Both stand there plus 1; 0 is none.
-pub fn name_fault(head: &[u8], layout: layout::Layout) -> laws::Lowest
+pub fn name_fault(head: &[u8], layout: layout::Layout) -> Option<usize>
     requires { LayoutRight layout × (slot_offset layout layout.slots ≤ length head.now) }
     ensures { result ≡ lowest (repeated layout (view_of layout (bytes head.now))) 0 layout.slots }
 {
@@ -266,15 +265,15 @@ pub fn name_fault(head: &[u8], layout: layout::Layout) -> laws::Lowest
     let mut slot = 0;
     while slot < count {
         if repeats(head, layout, &mut tops, &mut lowers, slot) {
-            return laws::Lowest::At(slot);
+            return Some(slot);
         }
         slot += 1;
     }
-    laws::Lowest::Nowhere
+    None
 }
 
 // The lowest empty slot.
-pub fn empty_slot(head: &[u8], layout: layout::Layout) -> laws::Lowest
+pub fn empty_slot(head: &[u8], layout: layout::Layout) -> Option<usize>
     requires { slot_offset layout layout.slots ≤ length head.now }
     ensures { result ≡ lowest (λ s. not (used ((view_of layout (bytes head.now)).entry s))) 0 layout.slots }
 {
@@ -282,9 +281,9 @@ pub fn empty_slot(head: &[u8], layout: layout::Layout) -> laws::Lowest
     let mut slot = 0;
     while slot < slots {
         if !is_used(head, layout, slot) {
-            return laws::Lowest::At(slot);
+            return Some(slot);
         }
         slot += 1;
     }
-    laws::Lowest::Nowhere
+    None
 }

@@ -1,7 +1,7 @@
 -- Document 01's worked disks and words, P1 to P13, with the end mark of document 02's request one; that request's old mark, request two's names in small
 -- letters, request five's S3000 disks, and request six's samples and programs of one name; one table, each row about real bytes.
 -- The checker computes each row on the bytes that are set; one lemma takes it to the list. Assumes nothing.
-use Rattle.std.specs.Prelude.{◌≡◌, ℕ, T, replicate}
+use Rattle.std.specs.Prelude.{◌≡◌, ℕ, T, replicate, Ok}
 use Rattle.std.proofs.Math.Path.{refl, ap, ap₂, fun_ext}
 use Rattle.std.proofs.Common.{◌∙◌, subst}
 use mathlib.Core.List.{List, [], ◌∷◌, map}
@@ -18,12 +18,10 @@ use Rattle.map.specs.Lemmas.Chains.{Linked}
 use Rattle.view.specs.Disk.{files_of}
 use Rattle.image.specs.Image.{entry_at, view_of, files_in, DiskRules, chosen, put_image}
 use Rattle.record.specs.Record.{Shape, shape_of, Files, Call, put, Answer, Outcome, judge_put, step_files}
-use Rattle.record.specs.declared.Judged.TheVariants.{Grant}
 use Rattle.record.proofs.Lemmas.Update.{put_effect}
 use Rattle.record.specs.Step.{step_image}
-use Rattle.rules.specs.declared.Checked.TheVariants.{Accepted}
-use Rattle.rules.specs.Check.{check_head, check_of, call_of}
-use Rattle.rules.proofs.Accepted.{accepted-rules}
+use Rattle.rules.specs.Check.{check_head, check_of, call_of, accepting}
+use Rattle.rules.proofs.Accepts.{accepted-rules}
 use Rattle.rules.proofs.Demand.{call_is, rules-after, files-after}
 use Rattle.words.specs.Words.{packed900}
 use Rattle.table.specs.Sparse.{Sparse, zeros, inside, list_of, reads, list_reads, sparse_check}
@@ -52,7 +50,7 @@ module _ (k : Kind) (d : Density) {X : Type 0} (see : Answer → List ℕ → X)
       (seen-fed cs (call_of img c).state _ (rules-after k d img c r)
       (fun_ext (files-after k d img c r) ∙ ap (λ (x : Files). (step_files (shape_of k d) x c).state) e))
 
-  seen-set : (n : ℕ) (s : Sparse) (f free : ℕ) (cs : List Call) → T (inside n s) → check_head n (reads s) ≡ Accepted k d f free → seen_of see (list_of n s) cs ≡ fed see (shape_of k d) (files_set k d s) cs
+  seen-set : (n : ℕ) (s : Sparse) (f free : ℕ) (cs : List Call) → T (inside n s) → check_head n (reads s) ≡ accepting k d f free → seen_of see (list_of n s) cs ≡ fed see (shape_of k d) (files_set k d s) cs
   seen-set n s f free cs t e =
       seen-fed cs (list_of n s) (files_set k d s) (accepted-rules k d f free (list_of n s) (sparse_check n s t ∙ e))
       (ap (λ (b : ℕ → ℕ). files_of (layout_of k d) (view_of (layout_of k d) b)) (fun_ext (list_reads n s t)))
@@ -63,14 +61,14 @@ Computed (checks n s answer) = T (inside n s) × (check_head n (reads s) ≡ ans
 Computed (packs words packed) = packed900 words ≡ packed
 Computed (leaves n s call values) = Holds (leaves n s call values)
 Computed (answers n s calls told) =
-    (k : Kind) × (d : Density) × (f : ℕ) × (free : ℕ) × T (inside n s) × (check_head n (reads s) ≡ Accepted k d f free) × (fed (λ answer output. answer) (shape_of k d) (files_set k d s) calls ≡ told)
+    (k : Kind) × (d : Density) × (f : ℕ) × (free : ℕ) × T (inside n s) × (check_head n (reads s) ≡ accepting k d f free) × (fed (λ answer output. answer) (shape_of k d) (files_set k d s) calls ≡ told)
 Computed (serves n s served) =
     (k : Kind)
     × (d : Density)
     × (f : ℕ)
     × (free : ℕ)
     × T (inside n s)
-    × (check_head n (reads s) ≡ Accepted k d f free)
+    × (check_head n (reads s) ≡ accepting k d f free)
     × (fed (λ answer output. (answer, output)) (shape_of k d) (files_set k d s) (map (λ t. t.0) served) ≡ map (λ t. t.1) served)
 
 abbrev AllComputed : List Row → Type 0
@@ -94,14 +92,14 @@ p1-reads : bytes p1 ≡ reads zeros
 unfolding p1
 p1-reads = fun_ext (list_reads 819200 zeros tt)
 
-p1-accepted : check_of p1 ≡ Accepted S900 Low 0 796
+p1-accepted : check_of p1 ≡ accepting S900 Low 0 796
 unfolding p1 check_head
 p1-accepted = sparse_check 819200 zeros tt ∙ refl
 
 abbrev content : List ℕ
 content = replicate 1025 7
 
-granted : judge_put low (files_in low p1) name 65 content ≡ Grant 0
+granted : judge_put low (files_in low p1) name 65 content ≡ Ok 0
 unfolding judge_put files_of entry_at
 granted = ap (λ (b : ℕ → ℕ). judge_put low (files_of low (view_of low b)) name 65 content) p1-reads
 

@@ -1,7 +1,7 @@
 -- Document 01's worked disks and words, P1 to P13, with the end mark of document 02's request one; that request's old mark, request two's names in small
 -- letters, request five's S3000 disks, and request six's samples and programs of one name; one table, each row about real bytes.
 -- The checker computes each row on the bytes that are set; one lemma takes it to the list. Assumes nothing.
-use Rattle.std.specs.Prelude.{◌≡◌, true, ℕ, ◌-◌, ℤ, pos, negsuc, length, replicate}
+use Rattle.std.specs.Prelude.{◌≡◌, true, ℕ, ◌-◌, ℤ, pos, negsuc, length, replicate, Err}
 use mathlib.Core.List.{List, [], ◌∷◌, ◌++◌, map}
 use Rattle.laws.specs.Reader.{bytes}
 use Rattle.layout.specs.declared.Kind.TheVariants.{S900, S1000, S3000}
@@ -10,10 +10,8 @@ use Rattle.layout.specs.declared.Layout.{Layout}
 use Rattle.layout.specs.Layouts.{layout_of}
 use Rattle.map.specs.Map.{map_at}
 use Rattle.record.specs.Record.{Call, list, find, page, put, remove, Answer, refused, entry, valued, paged, done}
-use Rattle.rules.specs.declared.Checked.{Checked}
 use Rattle.laws.specs.Refusals.{refusal_at}
-use Rattle.rules.specs.declared.Checked.TheVariants.{Accepted, Refused}
-use Rattle.rules.specs.Check.{check_of, call_of}
+use Rattle.rules.specs.Check.{check_of, call_of, Checked, accepting}
 use Rattle.words.specs.Words.{packed900}
 use Rattle.table.specs.Sparse.{Sparse, zeros, byte, list_of, value, identity, typed, blank, file}
 
@@ -132,30 +130,30 @@ six_calls =
 -- One name in two types on each kind; and twice in one, with another type between.
 abbrev pub six_checks : List Row
 six_checks =
-    checks 819200 (file low 0 65 1 4 (typed low 9 80 (file low 9 65 1 5 (value 4 32768 (value 5 32768 zeros))))) (Accepted S900 Low 2 794)
-    ∷ checks 1638400 (file high 0 11 1 5 (typed high 9 112 (file high 9 11 1 6 (value 5 49152 (value 6 49152 (blank high)))))) (Accepted S1000 High 2 1593)
-    ∷ checks 1638400 (file wide 0 11 1 17 (typed wide 511 208 (file wide 511 11 1 18 (value 17 49152 (value 18 49152 (blank wide)))))) (Accepted S3000 High 2 1581)
-    ∷ checks 1638400 (file high 0 11 1 5 (typed high 5 112 (file high 5 11 1 6 (file high 9 11 1 7 (value 5 49152 (value 6 49152 (value 7 49152 (blank high)))))))) (Refused (refusal_at 5 9))
+    checks 819200 (file low 0 65 1 4 (typed low 9 80 (file low 9 65 1 5 (value 4 32768 (value 5 32768 zeros))))) (accepting S900 Low 2 794)
+    ∷ checks 1638400 (file high 0 11 1 5 (typed high 9 112 (file high 9 11 1 6 (value 5 49152 (value 6 49152 (blank high)))))) (accepting S1000 High 2 1593)
+    ∷ checks 1638400 (file wide 0 11 1 17 (typed wide 511 208 (file wide 511 11 1 18 (value 17 49152 (value 18 49152 (blank wide)))))) (accepting S3000 High 2 1581)
+    ∷ checks 1638400 (file high 0 11 1 5 (typed high 5 112 (file high 5 11 1 6 (file high 9 11 1 7 (value 5 49152 (value 6 49152 (value 7 49152 (blank high)))))))) (Err (refusal_at 5 9))
     ∷ six_calls
 
 abbrev pub rows : List Row
 rows =
-    checks 819200 zeros (Accepted S900 Low 0 796)  -- P1
-    ∷ checks 819199 zeros (Refused (refusal_at 1 0))  -- P2
-    ∷ checks 1638400 (file high 0 11 1024 5 (value 5 49152 (blank high))) (Accepted S1000 High 1 1594)  -- P3
-    ∷ checks 1638400 (file high 0 11 1025 5 (value 5 49152 (blank high))) (Refused (refusal_at 7 0))  -- P4
-    ∷ checks 1638400 (file high 0 11 1024 4 (value 5 49152 (blank high))) (Refused (refusal_at 6 0))  -- P5
-    ∷ checks 819200 (file low 0 65 1 4 (value 4 32768 zeros)) (Accepted S900 Low 1 795)  -- P6
-    ∷ checks 1638400 (file high 0 11 1024 1600 (value 5 49152 (blank high))) (Refused (refusal_at 6 0))  -- P7
-    ∷ checks 1638400 (file high 0 11 2048 5 (value 5 5 (blank high))) (Refused (refusal_at 7 0))  -- P8
-    ∷ checks 1638400 (file high 0 11 1 5 (file high 1 12 1 5 (value 5 49152 (blank high)))) (Refused (refusal_at 8 1))  -- P9
-    ∷ checks 819200 (value 9 32768 zeros) (Refused (refusal_at 9 9))  -- P10
+    checks 819200 zeros (accepting S900 Low 0 796)  -- P1
+    ∷ checks 819199 zeros (Err (refusal_at 1 0))  -- P2
+    ∷ checks 1638400 (file high 0 11 1024 5 (value 5 49152 (blank high))) (accepting S1000 High 1 1594)  -- P3
+    ∷ checks 1638400 (file high 0 11 1025 5 (value 5 49152 (blank high))) (Err (refusal_at 7 0))  -- P4
+    ∷ checks 1638400 (file high 0 11 1024 4 (value 5 49152 (blank high))) (Err (refusal_at 6 0))  -- P5
+    ∷ checks 819200 (file low 0 65 1 4 (value 4 32768 zeros)) (accepting S900 Low 1 795)  -- P6
+    ∷ checks 1638400 (file high 0 11 1024 1600 (value 5 49152 (blank high))) (Err (refusal_at 6 0))  -- P7
+    ∷ checks 1638400 (file high 0 11 2048 5 (value 5 5 (blank high))) (Err (refusal_at 7 0))  -- P8
+    ∷ checks 1638400 (file high 0 11 1 5 (file high 1 12 1 5 (value 5 49152 (blank high)))) (Err (refusal_at 8 1))  -- P9
+    ∷ checks 819200 (value 9 32768 zeros) (Err (refusal_at 9 9))  -- P10
     ∷ packs (pos 291 ∷ negsuc 0 ∷ []) (63 ∷ 18 ∷ 255 ∷ [])  -- P11
     ∷ packs (negsuc 2047 ∷ pos 2047 ∷ []) (15 ∷ 128 ∷ 127 ∷ [])  -- P12
     ∷ leaves 819200 zeros (put name 65 (replicate 1025 7)) ((4, 5) ∷ (5, 32768) ∷ [])  -- P13
-    ∷ checks 1638400 (file high 0 11 1024 5 (value 5 19152 (blank high))) (Refused (refusal_at 7 0))  -- request one: at the last block
-    ∷ checks 1638400 (file high 0 11 1025 5 (value 5 19152 (blank high))) (Refused (refusal_at 6 0))  -- before it
-    ∷ checks 1638400 (value 9 19152 (blank high)) (Refused (refusal_at 9 9))  -- where no chain has the block
+    ∷ checks 1638400 (file high 0 11 1024 5 (value 5 19152 (blank high))) (Err (refusal_at 7 0))  -- request one: at the last block
+    ∷ checks 1638400 (file high 0 11 1025 5 (value 5 19152 (blank high))) (Err (refusal_at 6 0))  -- before it
+    ∷ checks 1638400 (value 9 19152 (blank high)) (Err (refusal_at 9 9))  -- where no chain has the block
     -- request two: on an S1000 disk spellings are one name, kept in capitals; on an S900 disk they are two
     ∷ answers 819200 (blank (layout_of S1000 Low))
     (put bass_c2 115 (7 ∷ []) ∷ list 0 ∷ find BASS_C2 115 ∷ put b_as_s_C2 115 (8 ∷ []) ∷ remove b_as_s_C2 115 ∷ find bass_c2 115 ∷ [])
@@ -163,17 +161,17 @@ rows =
     ∷ answers 819200 zeros
     (put bass 83 (7 ∷ []) ∷ put BASS 83 (8 ∷ []) ∷ list 0 ∷ find BASS 83 ∷ remove BASS 83 ∷ find bass 83 ∷ [])
     (valued 0 ∷ valued 1 ∷ entry bass 83 1 ∷ valued 1 ∷ done ∷ valued 0 ∷ [])
-    ∷ checks 1638400 (blank wide) (Accepted S3000 High 0 1583)  -- request five: an empty disk
-    ∷ checks 1638400 (file wide 0 11 1024 17 (value 17 49152 (blank wide))) (Accepted S3000 High 1 1582)  -- as P3
-    ∷ checks 1638400 (file wide 0 11 1025 17 (value 17 49152 (blank wide))) (Refused (refusal_at 7 0))  -- as P4
-    ∷ checks 1638400 (file wide 0 11 1024 16 (value 17 49152 (blank wide))) (Refused (refusal_at 6 0))  -- as P5: a start of 16
-    ∷ checks 1638400 (file wide 511 11 1024 17 (value 17 49152 (blank wide))) (Accepted S3000 High 1 1582)  -- the last slot
-    ∷ checks 1638400 (file wide 511 11 1 17 (file wide 64 12 1 17 (value 17 49152 (blank wide)))) (Refused (refusal_at 8 511))  -- as P9
-    ∷ checks 1638400 (identity wide 7 768 (file wide 7 11 1024 17 (value 17 49152 (blank wide)))) (Refused (refusal_at 4 7))  -- a used slot with identity 0,3
-    ∷ checks 1638400 (identity wide 7 768 (blank wide)) (Accepted S3000 High 0 1583)  -- an empty slot with it
-    ∷ checks 1638400 (value 16 0 (blank wide)) (Refused (refusal_at 3 16))  -- a seventeenth system block that isn't marked
-    ∷ checks 819200 (byte 16 255 (blank (layout_of S1000 Low))) (Refused (refusal_at 2 0))  -- 255 on a low image, whatever the identities
-    ∷ checks 1638400 (byte 16 255 (blank high)) (Refused (refusal_at 3 5))  -- and on a high one: it is an S3000 disk, whose block 5 isn't marked
+    ∷ checks 1638400 (blank wide) (accepting S3000 High 0 1583)  -- request five: an empty disk
+    ∷ checks 1638400 (file wide 0 11 1024 17 (value 17 49152 (blank wide))) (accepting S3000 High 1 1582)  -- as P3
+    ∷ checks 1638400 (file wide 0 11 1025 17 (value 17 49152 (blank wide))) (Err (refusal_at 7 0))  -- as P4
+    ∷ checks 1638400 (file wide 0 11 1024 16 (value 17 49152 (blank wide))) (Err (refusal_at 6 0))  -- as P5: a start of 16
+    ∷ checks 1638400 (file wide 511 11 1024 17 (value 17 49152 (blank wide))) (accepting S3000 High 1 1582)  -- the last slot
+    ∷ checks 1638400 (file wide 511 11 1 17 (file wide 64 12 1 17 (value 17 49152 (blank wide)))) (Err (refusal_at 8 511))  -- as P9
+    ∷ checks 1638400 (identity wide 7 768 (file wide 7 11 1024 17 (value 17 49152 (blank wide)))) (Err (refusal_at 4 7))  -- a used slot with identity 0,3
+    ∷ checks 1638400 (identity wide 7 768 (blank wide)) (accepting S3000 High 0 1583)  -- an empty slot with it
+    ∷ checks 1638400 (value 16 0 (blank wide)) (Err (refusal_at 3 16))  -- a seventeenth system block that isn't marked
+    ∷ checks 819200 (byte 16 255 (blank (layout_of S1000 Low))) (Err (refusal_at 2 0))  -- 255 on a low image, whatever the identities
+    ∷ checks 1638400 (byte 16 255 (blank high)) (Err (refusal_at 3 5))  -- and on a high one: it is an S3000 disk, whose block 5 isn't marked
     -- the type is the byte itself, 83 is none; names fold, and there are 512 slots
     ∷ answers 1638400 (blank wide)
     (put bass_c2 211 (7 ∷ []) ∷ put b_as_s_C2 83 (8 ∷ []) ∷ list 0 ∷ find BASS_C2 211 ∷ put b_as_s_C2 211 (8 ∷ []) ∷ list 511 ∷ list 512 ∷ remove bass_c2 211 ∷ find bass_c2 211 ∷ [])

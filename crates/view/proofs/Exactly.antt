@@ -1,6 +1,6 @@
 -- The cascade of searches refuses exactly as is due (`refused_due`), and passes exactly the valid disks (`passed_valid`, `valid_passed`).
 -- A search's test holds exactly where its rule is broken; a disk is valid exactly where none is. Assumes nothing.
-use Rattle.std.specs.Prelude.{◌≡◌, false, ◌↔◌, ◌⊎◌, ℕ, suc, ◌+◌, ◌≤◌, ◌<◌, eqb}
+use Rattle.std.specs.Prelude.{◌≡◌, false, ◌↔◌, ◌⊎◌, ℕ, suc, ◌+◌, ◌≤◌, ◌<◌, eqb, Ok, Some, Err, None}
 use Rattle.std.proofs.Math.Path.{refl, ap}
 use Rattle.std.proofs.Common.{sym, ◌∙◌}
 use Rattle.std.proofs.Math.Bool.{true, not}
@@ -9,13 +9,11 @@ use Rattle.std.proofs.Math.Decide.{dec_lt, ℕ_discrete}
 use native.Mathlib.Omega.{arith}
 use borrow.Author.Tests.{eqb-false, ne_eqb, eqb-true, not-true}
 use Rattle.laws.specs.Lemmas.Truth.{both_true, true_both, clash, true_if, false_if}
-use Rattle.laws.specs.Refusals.{refusal_at}
-use Rattle.laws.specs.Scan.{lowest, any}
+use Rattle.laws.specs.Refusals.{refusal_at, number_of, place_of}
+use Rattle.laws.specs.Scan.{lowest, any, Lowest}
 use Rattle.laws.specs.Lemmas.Scan.{nowhere→, →nowhere, at→, lowest_least, none→}
 use Rattle.laws.proofs.Lemmas.Scan.{some→}
 use Rattle.laws.specs.declared.Refusal.{Refusal}
-use Rattle.laws.specs.declared.Lowest.{Lowest}
-use Rattle.laws.specs.declared.Lowest.TheVariants.{At, Nowhere}
 use Rattle.laws.specs.Lists.{meets}
 use Rattle.laws.specs.Lemmas.Lists.{apart_of, meeting}
 use Rattle.laws.specs.Member.{In, has}
@@ -25,14 +23,13 @@ use Rattle.layout.specs.Right.{LayoutRight}
 use Rattle.blocks.specs.Blocks.{links_for}
 use Rattle.map.specs.Map.{Walk, Bad, Cut, Data, Astray, Miscounted, is_whole, fault_of}
 use Rattle.map.specs.Lemmas.Walks.{chained_walk, astray_walk, miscounted_walk}
-use Rattle.view.specs.declared.Ruled.{Ruled}
-use Rattle.view.specs.declared.Ruled.TheVariants.{Pass, Fail}
 use Rattle.view.specs.Disk.{View, used, formed, chain_of, owned, Namesakes, Used, Owns, Valid}
 use Rattle.view.specs.Lemmas.Namesakes.{namesakes_named, named_namesakes, namesakes_used, namesakes_back}
 use Rattle.view.specs.Lemmas.Counting.{slot_in, owned_by, by_owned}
-use Rattle.view.specs.Rules.{or_fail, bad_system, malformed, has_name_of, repeated, walk_of, broken, sharing, stray, rules}
+use Rattle.view.specs.Rules.{or_fail, bad_system, malformed, has_name_of, repeated, walk_of, broken, sharing, stray, rules, Ruled}
 use Rattle.view.specs.Broken.{Rule, system, legal, single, linked, apart, owner, turn, Breaks, Due}
 use Rattle.view.specs.Exactly.{same_turn, either_side, test, from, size, number_at, linked_by, Met, Unbroken, unbroken_legal, unbroken_linked, unbroken_apart}
+use Rattle.laws.specs.Lemmas.Refusals.{refusal_is}
 
 -- ---- turns
 
@@ -125,62 +122,78 @@ module _ (l : Layout) (v : View) where
     pub quiet_unbroken : (r : Rule) → ((p : ℕ) → from l v r ≤ p → p < from l v r + size l v r → test l v r p ≡ false) → Unbroken l v right r
     quiet_unbroken r q n p b = let m = misses r n p b in clash m.holds (q p m.low m.high)
 
-    nowhere_unbroken : (r : Rule) → found r ≡ Nowhere → Unbroken l v right r
+    nowhere_unbroken : (r : Rule) → found r ≡ None → Unbroken l v right r
     nowhere_unbroken r e = quiet_unbroken r (nowhere→ (test l v r) (from l v r) (size l v r) e)
 
-    unbroken_nowhere : (r : Rule) → Unbroken l v right r → found r ≡ Nowhere
+    unbroken_nowhere : (r : Rule) → Unbroken l v right r → found r ≡ None
     unbroken_nowhere r u = →nowhere (test l v r) (from l v r) (size l v r) (λ p h k. false_if (test l v r p) (λ t. u (number_at l v r p) p (hits r p h k t)))
 
-    broken_at : (r : Rule) (n p : ℕ) → Breaks l v r n p → ((m q : ℕ) → q < p → Breaks l v r m q → ⊥) → found r ≡ At p
+    broken_at : (r : Rule) (n p : ℕ) → Breaks l v r n p → ((m q : ℕ) → q < p → Breaks l v r m q → ⊥) → found r ≡ Some p
     broken_at r n p b low = go (found r) refl
       where
         m : Met l v r n p
         m = misses r n p b
 
-        go : (w : Lowest) → found r ≡ w → found r ≡ At p
-        go Nowhere e = absurd (nowhere_unbroken r e n p b)
-        go (At q) e =
+        go : (w : Lowest) → found r ≡ w → found r ≡ Some p
+        go None e = absurd (nowhere_unbroken r e n p b)
+        go (Some q) e =
             let a = at→ (test l v r) (from l v r) (size l v r) q e in
             let h : q ≤ p = lowest_least (test l v r) (from l v r) (size l v r) q e p m.low m.high m.holds in
             same (dec_lt q p) (hits r q a.0 a.1 a.2) h
           where
-            same : Dec (q < p) → Breaks l v r (number_at l v r q) q → q ≤ p → found r ≡ At p
+            same : Dec (q < p) → Breaks l v r (number_at l v r q) q → q ≤ p → found r ≡ Some p
             same (yes k) c h = absurd (low (number_at l v r q) q k c)
-            same (no k) c h = let z : q ≡ p = omega arith in e ∙ ap At z
+            same (no k) c h = let z : q ≡ p = omega arith in e ∙ ap Some z
 
     -- ---- the cascade refuses as is due
 
     -- the search of each rule before a turn finds nothing
     abbrev Clear : ℕ → Type 0
-    Clear k = (q : Rule) → turn q < k → found q ≡ Nowhere
+    Clear k = (q : Rule) → turn q < k → found q ≡ None
 
-    clear_on : (r : Rule) → Clear (turn r) → found r ≡ Nowhere → Clear (suc (turn r))
+    clear_on : (r : Rule) → Clear (turn r) → found r ≡ None → Clear (suc (turn r))
     clear_on r c e q h = go (ℕ_discrete (turn q) (turn r))
       where
-        go : Dec (turn q ≡ turn r) → found q ≡ Nowhere
+        go : Dec (turn q ≡ turn r) → found q ≡ None
         go (yes t) = ap found (same_turn q r t) ∙ e
         go (no t) = c q (omega arith)
 
-    due_at : (r : Rule) (p : ℕ) → found r ≡ At p → Clear (turn r) → Due l v (refusal_at (number_at l v r p) p)
+    -- where a rule is broken, its refusal has that number and that place
+    told_at : (r : Rule) (n p : ℕ) → Breaks l v r n p → (number_of (refusal_at n p) ≡ n) × (place_of (refusal_at n p) ≡ p)
+    told_at system n p b = rw b.0 (refl, refl)
+    told_at legal n p b = rw b.0 (refl, refl)
+    told_at single n p b = rw b.0 (refl, refl)
+    told_at linked n p b = go b.1
+      where
+        go : ((n ≡ 6) × Astray l v.map (links_for (v.entry p).size) (v.entry p).start) ⊎ ((n ≡ 7) × Miscounted l v.map (links_for (v.entry p).size) (v.entry p).start)
+            → (number_of (refusal_at n p) ≡ n) × (place_of (refusal_at n p) ≡ p)
+        go (inl w) = rw w.0 (refl, refl)
+        go (inr w) = rw w.0 (refl, refl)
+    told_at apart n p b = rw b.0 (refl, refl)
+    told_at owner n p b = rw b.0 (refl, refl)
+
+    due_at : (r : Rule) (p : ℕ) → found r ≡ Some p → Clear (turn r) → Due l v (refusal_at (number_at l v r p) p)
     due_at r p e c =
         let a = at→ (test l v r) (from l v r) (size l v r) p e in
+        let b = hits r p a.0 a.1 a.2 in
+        let told = told_at r (number_at l v r p) p b in
         record {
           rule = r;
-          broken = hits r p a.0 a.1 a.2;
+          broken = rw (told.0, told.1) b;
           earlier = λ o h. nowhere_unbroken o (c o h);
-          lower = λ n q h b. let m = misses r n q b in let k : p ≤ q = lowest_least (test l v r) (from l v r) (size l v r) p e q m.low m.high m.holds in omega arith;
+          lower = λ n q h b. let m = misses r n q b in let low : q < p = rw told.1 at h in let k : p ≤ q = lowest_least (test l v r) (from l v r) (size l v r) p e q m.low m.high m.holds in omega arith;
         }
 
     -- passed with every search empty, or refused as is due
     abbrev Decided : Ruled → Type 0
-    Decided x = (Clear 6 × (x ≡ Pass)) ⊎ ((q : Refusal) × Due l v q × (x ≡ Fail q))
+    Decided x = (Clear 6 × (x ≡ Ok tt)) ⊎ ((q : Refusal) × Due l v q × (x ≡ Err q))
 
     level : (r : Rule) (next : Ruled) → Clear (turn r) → (Clear (suc (turn r)) → Decided next) → Decided (or_fail (number_at l v r) (found r) next)
     level r next c go = by (found r) refl
       where
         by : (w : Lowest) → found r ≡ w → Decided (or_fail (number_at l v r) (found r) next)
-        by Nowhere e = rw e (go (clear_on r c e))
-        by (At p) e = rw e (inr (refusal_at (number_at l v r p) p, due_at r p e c, refl))
+        by None e = rw e (go (clear_on r c e))
+        by (Some p) e = rw e (inr (refusal_at (number_at l v r p) p, due_at r p e c, refl))
 
     decided : Decided (rules l v)
     unfolding rules
@@ -190,9 +203,9 @@ module _ (l : Layout) (v : View) where
         level single _ c (λ c.
         level linked _ c (λ c.
         level apart _ c (λ c.
-        level owner Pass c (λ c. inl (c, refl)))))))
+        level owner (Ok tt) c (λ c. inl (c, refl)))))))
 
-    cascade : (r : Rule) (p : ℕ) → Clear (turn r) → found r ≡ At p → rules l v ≡ Fail (refusal_at (number_at l v r p) p)
+    cascade : (r : Rule) (p : ℕ) → Clear (turn r) → found r ≡ Some p → rules l v ≡ Err (refusal_at (number_at l v r p) p)
     unfolding rules
     cascade system p c e = rw e refl
     cascade legal p c e = rw (c system (omega arith), e) refl
@@ -202,21 +215,22 @@ module _ (l : Layout) (v : View) where
     cascade owner p c e =
         rw (c system (omega arith), c legal (omega arith), c single (omega arith), c linked (omega arith), c apart (omega arith), e) refl
 
-    refused→ : (q : Refusal) → rules l v ≡ Fail q → Due l v q
+    refused→ : (q : Refusal) → rules l v ≡ Err q → Due l v q
     refused→ q e = go decided
       where
         go : Decided (rules l v) → Due l v q
-        go (inl p) = let x : Fail q ≡ Pass = sym e ∙ p.1 in absurd (let z : ◌≡◌ {A = ℕ} 0 1 = cc in omega arith)
-        go (inr d) = let x : Fail d.0 ≡ Fail q = sym d.2 ∙ e in let z : d.0 ≡ q = cc in rw z at d.1
+        go (inl p) = let x : Err q ≡ Ok tt = sym e ∙ p.1 in absurd (let z : ◌≡◌ {A = ℕ} 0 1 = cc in omega arith)
+        go (inr d) = let x : Err d.0 ≡ Err q = sym d.2 ∙ e in let z : d.0 ≡ q = cc in rw z at d.1
 
-    →refused : (q : Refusal) → Due l v q → rules l v ≡ Fail q
+    →refused : (q : Refusal) → Due l v q → rules l v ≡ Err q
     →refused q d =
         let r = d.rule in
-        cascade r q.place (λ o h. unbroken_nowhere o (d.earlier o h)) (broken_at r q.number q.place d.broken d.lower)
-        ∙ ap (λ (n : ℕ). Fail (refusal_at n q.place)) (sym (misses r q.number q.place d.broken).is)
+        cascade r (place_of q) (λ o h. unbroken_nowhere o (d.earlier o h)) (broken_at r (number_of q) (place_of q) d.broken d.lower)
+        ∙ ap (λ (n : ℕ). Err (refusal_at n (place_of q))) (sym (misses r (number_of q) (place_of q) d.broken).is)
+        ∙ ap Err (refusal_is q)
 
     -- Refusals 3 to 9 are given exactly when they are due.
-    pub refused_due : (q : Refusal) → (rules l v ≡ Fail q) ↔ Due l v q
+    pub refused_due : (q : Refusal) → (rules l v ≡ Err q) ↔ Due l v q
     refused_due q = (refused→ q, →refused q)
 
     -- ---- a disk is valid exactly where no rule is broken
@@ -255,7 +269,7 @@ module _ (l : Layout) (v : View) where
         owned_or b d n (yes i) = let o = owned_by v l.slots b i in (o.0, ((o.1, o.2), o.3))
         owned_or b d n (no i) = absurd (u owner 9 b (refl, d, n, λ s o. i (by_owned v l.slots b s o.0.0 o.0.1 o.1)))
 
-    pub passed_valid : rules l v ≡ Pass → Valid l v
+    pub passed_valid : rules l v ≡ Ok tt → Valid l v
     passed_valid e = go decided
       where
         few : (r : Rule) → turn r < 6
@@ -268,11 +282,11 @@ module _ (l : Layout) (v : View) where
 
         go : Decided (rules l v) → Valid l v
         go (inl p) = unbroken_valid (λ r. nowhere_unbroken r (p.0 r (few r)))
-        go (inr d) = let x : Fail d.0 ≡ Pass = sym d.2 ∙ e in absurd (let z : ◌≡◌ {A = ℕ} 0 1 = cc in omega arith)
+        go (inr d) = let x : Err d.0 ≡ Ok tt = sym d.2 ∙ e in absurd (let z : ◌≡◌ {A = ℕ} 0 1 = cc in omega arith)
 
-    pub valid_passed : Valid l v → rules l v ≡ Pass
+    pub valid_passed : Valid l v → rules l v ≡ Ok tt
     valid_passed w = go decided
       where
-        go : Decided (rules l v) → rules l v ≡ Pass
+        go : Decided (rules l v) → rules l v ≡ Ok tt
         go (inl p) = p.1
-        go (inr d) = absurd (valid_unbroken w d.1.rule d.0.number d.0.place d.1.broken)
+        go (inr d) = absurd (valid_unbroken w d.1.rule (number_of d.0) (place_of d.0) d.1.broken)

@@ -6,6 +6,7 @@ use Rattle.layout.specs.declared.Layout.{Layout}
 use Rattle.blocks.specs.Blocks.{links_for}
 use Rattle.map.specs.Map.{Data, Astray, Miscounted}
 use Rattle.view.specs.Disk.{View, formed, Namesakes, Used, Owns}
+use Rattle.laws.specs.Refusals.{number_of, place_of}
 
 -- The rules, by their names in `Valid`.
 pub data Rule : Type 0 where
@@ -46,6 +47,6 @@ Breaks l v owner number block = (number ≡ 9) × Data l block × (v.map block �
 -- A refusal is due: it is that of the first broken rule, at the lowest place where that one is broken.
 pub record Due (l : Layout) (v : View) (r : Refusal) : Type 0 where
   pub rule : Rule
-  pub broken : Breaks l v rule r.number r.place
+  pub broken : Breaks l v rule (number_of r) (place_of r)
   pub earlier : (other : Rule) → turn other < turn rule → (number place : ℕ) → Breaks l v other number place → ⊥
-  pub lower : (number place : ℕ) → place < r.place → Breaks l v rule number place → ⊥
+  pub lower : (number place : ℕ) → place < place_of r → Breaks l v rule number place → ⊥

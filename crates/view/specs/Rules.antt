@@ -1,23 +1,24 @@
 -- Refusals 3 to 9 as a cascade of searches in document 01's order, each at its lowest place. Assumes nothing.
-use Rattle.std.specs.Prelude.{Bool, not, ℕ, ◌-◌, eqb}
+use Rattle.std.specs.Prelude.{Bool, not, ℕ, ◌-◌, eqb, Ok, None, Some, Err, Result, ⊤}
 use Rattle.laws.specs.Truth.{both}
 use Rattle.laws.specs.Refusals.{refusal_at}
-use Rattle.laws.specs.Scan.{lowest, any}
-use Rattle.laws.specs.declared.Lowest.{Lowest}
-use Rattle.laws.specs.declared.Lowest.TheVariants.{At, Nowhere}
+use Rattle.laws.specs.Scan.{lowest, any, Lowest}
 use Rattle.laws.specs.Lists.{meets}
 use Rattle.laws.specs.Member.{has}
 use Rattle.layout.specs.declared.Layout.{Layout}
 use Rattle.blocks.specs.Blocks.{links_for}
 use Rattle.map.specs.Map.{Walk, walk, is_whole, fault_of}
-use Rattle.view.specs.declared.Ruled.{Ruled}
-use Rattle.view.specs.declared.Ruled.TheVariants.{Pass, Fail}
 use Rattle.view.specs.Disk.{View, used, formed, has_name, chain_of, owned}
+use Rattle.laws.specs.declared.Refusal.{Refusal}
+
+-- What the disk rules say of a disk: it passes, or is refused.
+abbrev pub Ruled : Type 0
+Ruled = Result ⊤ Refusal
 
 -- The refusal at the place found, or what comes next.
 abbrev pub or_fail : (ℕ → ℕ) → Lowest → Ruled → Ruled
-or_fail number (At k) next = Fail (refusal_at (number k) k)
-or_fail number Nowhere next = next
+or_fail number (Some k) next = Err (refusal_at (number k) k)
+or_fail number None next = next
 
 module _ (l : Layout) (v : View) where
   -- 3: a system block doesn't hold the system value
@@ -66,4 +67,4 @@ module _ (l : Layout) (v : View) where
       (or_fail (λ s. fault_of (walk_of s)) (lowest broken 0 l.slots)
       (or_fail (λ s. 8) (lowest sharing 0 l.slots)
       (or_fail (λ b. 9) (lowest stray l.first (l.blocks - l.first))
-      Pass)))))
+      (Ok tt))))))

@@ -1,5 +1,4 @@
--- `blocks::copy_part` meets its contract: the copied run is a splice of the target.
--- The part that was lent comes back as what `copy_run` made of it, by `copy_back`. Assumes nothing.
+-- `blocks::copy_part` meets its contract: the part that was lent comes back as the source's part, by `copy_back`. Assumes nothing.
 use Rattle.std.proofs.Common.{arith}
 use Rattle.laws.proofs.Lemmas.Splice.{copy_back}
 use Rattle.blocks.proofs.copy_part.Goals as goal
@@ -7,4 +6,4 @@ use Rattle.blocks.proofs.copy_part.Goals as goal
 pub returns : goal.returns
 returns c =
     let a = c.args in
-    copy_back a.target.now a.at a.n a.source.now a.from (omega arith) (omega arith) c.copy_run.ensures
+    copy_back a.target.now a.at a.n a.source.now a.from (omega arith) (omega arith) c.copy_from_slice.ensures.after

@@ -1,6 +1,6 @@
 -- Numbers of some bytes, least significant first (document 01, "What the bought archive holds"), read and written.
 -- One definition and one law over the width, by induction on it. Assumes nothing.
-use Rattle.std.specs.Prelude.{◌≡◌, refl, List, ℕ, zero, suc, ◌+◌, ◌-◌, ◌*◌, ◌/◌, ◌%◌, ◌≤◌, ◌<◌, length, get_or, set}
+use Rattle.std.specs.Prelude.{◌≡◌, refl, List, ℕ, zero, suc, ◌+◌, ◌-◌, ◌*◌, ◌/◌, ◌%◌, ◌^◌, ◌≤◌, ◌<◌, length, get_or, set}
 use Rattle.std.proofs.Common.{sym, ap, ap₂, ◌∙◌, add-zero, add-suc, suc-add, add-one, arith, ext_get_or}
 use Rattle.std.proofs.Math.Decide.{dec_lt}
 use Rattle.laws.specs.Splice.{splice}
@@ -47,6 +47,17 @@ number-one b at e h = record { value = omega arith; small = omega arith }
 pub number_next : (width : ℕ) (b : ℕ → ℕ) (at : ℕ) {x y : ℕ} → x ≡ b at → x < 256 → Number width b (at + 1) y → Number (suc width) b at (x + 256 * y)
 unfolding number
 number_next width b at e h n = record { value = rw (e, n.value, add-one at); small = omega (arith, n.small) }
+
+-- more bytes hold larger numbers
+pub top_rise : (narrow wide : ℕ) → narrow ≤ wide → top narrow ≤ top wide
+top_rise zero zero h = omega arith
+top_rise zero (suc wide) h = omega (arith, top_rise zero wide (omega arith))
+top_rise (suc narrow) zero h = absurd (omega arith)
+top_rise (suc narrow) (suc wide) h = omega (arith, top_rise narrow wide (omega arith))
+
+-- a number of eight bytes at most fits
+pub number_fits : (width : ℕ) {b : ℕ → ℕ} {at r : ℕ} → width ≤ 8 → Number width b at r → r < 2 ^ 64
+number_fits width h n = omega (arith, n.small, top_rise width 8 h)
 
 -- a number's lowest byte stored, and after it the bytes of the rest
 pub store_next : (width : ℕ) (l : List ℕ) (at v : ℕ) → splice (set l at (v % 256)) (at + 1) (digits width (v / 256)) ≡ splice l at (digits (suc width) v)

@@ -1,22 +1,18 @@
 -- `calls::find` meets its contract: a refused image answers the check's refusal, an accepted one what the record says.
 -- The check's answer is taken apart, and the layout is that of its kind and density. Assumes nothing.
+use Rattle.std.proofs.lemmas.Result.{err_from_is_err_and}
 use Rattle.calls.specs.Answers.{find_call}
 use Rattle.calls.specs.Lemmas.Answers.{call_refused}
-use Rattle.calls.specs.Lemmas.Done.{done-right, done-rules, find_done}
+use Rattle.calls.specs.Lemmas.Done.{done_needs, find_done}
 use Rattle.calls.proofs.find.Goals as goal
 
-pub returns-in_default : goal.returns-in_default
-returns-in_default c =
-    let a = c.args in
-    call_refused a.image.now (find_call a.name.now a.letter) c.check-checked.ensures c.in_default.is c.refusal_of.ensures
+pub returns-in_err-kind : goal.returns-in_err-kind
+returns-in_err-kind c =
+    let refused = err_from_is_err_and c.from_residual.result c.from_residual.ensures.1 in
+    rw (refused.1, refused.2) (call_refused _ (find_call c.args.name.now c.args.letter) c.check.ensures c.in_err-kind.was)
 
 pub judge_name-requires : goal.judge_name-requires
-judge_name-requires c =
-    let img = c.args.image.now in
-    let yes = c.in-Accepted.is in
-    (done-right img c.check-checked.ensures yes c.layout_of-layout.ensures, done-rules img c.check-checked.ensures yes c.layout_of-layout.ensures)
+judge_name-requires c = done_needs _ c.check.ensures c.in_ok-kind.was c.layout_of-layout.ensures
 
 pub returns : goal.returns
-returns c =
-    let a = c.args in
-    find_done a.image.now c.check-checked.ensures c.in-Accepted.is c.layout_of-layout.ensures a.name.now a.letter c.judge_name.ensures c.found_by.ensures
+returns c = find_done _ c.check.ensures c.in_ok-kind.was c.layout_of-layout.ensures _ _ c.judge_name.ensures

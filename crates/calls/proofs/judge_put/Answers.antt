@@ -1,8 +1,8 @@
 -- `calls::judge_put` meets its contract: 11, 13, 12, 14, 15 and 16 in this order, else the lowest empty slot.
 -- Each test decides the cascade's next step, whatever the content of that length is. Assumes nothing.
-use Rattle.std.proofs.Common.{◌≡◌, sym, ◌∙◌, true}
-use Rattle.calls.specs.Lemmas.Putting.{put_illegal, put_empty, put_taken, put_full, put_room}
-use Rattle.record.specs.Record.{is_legal}
+use Rattle.std.proofs.Common.{sym, ◌∙◌}
+use Rattle.std.proofs.lemmas.Result.{err_from_is_err_and}
+use Rattle.calls.specs.Lemmas.Putting.{put_illegal, put_empty, put_taken, put_none, put_some, put_room}
 use Rattle.calls.proofs.judge_put.Goals as goal
 
 pub returns-then-not-is_legal : goal.returns-then-not-is_legal
@@ -10,26 +10,27 @@ returns-then-not-is_legal c = λ content long. put_illegal _ c.requires.0 _ c.re
 
 pub returns-then-size-eq0 : goal.returns-then-size-eq0
 returns-then-size-eq0 c =
-    let legal : (let a = c.args in is_legal a.layout a.name.now a.letter ≡ true) = sym c.is_legal.ensures ∙ c.if-not-is_legal.false in
-    λ content long. put_empty _ c.requires.0 _ c.requires.1 _ _ content long legal c.if-size-eq0.true
+    λ content long. put_empty _ c.requires.0 _ c.requires.1 _ _ content long (sym c.is_legal.ensures ∙ c.if-not-is_legal.false) c.if-size-eq0.true
 
-pub slot_named-taken-requires : goal.slot_named-taken-requires
-slot_named-taken-requires c =
-    let legal : (let a = c.args in is_legal a.layout a.name.now a.letter ≡ true) = sym c.is_legal.ensures ∙ c.if-not-is_legal.false in
-    (c.requires.0, c.requires.1, legal)
+pub slot_named-requires : goal.slot_named-requires
+slot_named-requires c = (c.requires.0, c.requires.1, sym c.is_legal.ensures ∙ c.if-not-is_legal.false)
 
-pub returns-in-At : goal.returns-in-At
-returns-in-At c =
-    let legal : (let a = c.args in is_legal a.layout a.name.now a.letter ≡ true) = sym c.is_legal.ensures ∙ c.if-not-is_legal.false in
-    λ content long. put_taken _ c.requires.0 _ c.requires.1 _ _ content long legal c.if-size-eq0.false c.slot_named-taken.ensures c.in-At.is
+pub returns-in-Some : goal.returns-in-Some
+returns-in-Some c =
+    λ content long.
+    put_taken _ c.requires.0 _ c.requires.1 _ _ content long (sym c.is_legal.ensures ∙ c.if-not-is_legal.false) c.if-size-eq0.false c.slot_named.ensures c.in-Some.is
 
-pub returns-in_default-empty : goal.returns-in_default-empty
-returns-in_default-empty c =
-    let legal : (let a = c.args in is_legal a.layout a.name.now a.letter ≡ true) = sym c.is_legal.ensures ∙ c.if-not-is_legal.false in
-    λ content long. put_full _ c.requires.0 _ c.requires.1 _ _ content long legal c.if-size-eq0.false c.slot_named-taken.ensures c.in_default.is c.empty_slot-empty.ensures c.in_default-empty.is
+pub returns-in_err-slot : goal.returns-in_err-slot
+returns-in_err-slot c =
+    λ content long.
+    let refused = err_from_is_err_and c.from_residual.result c.from_residual.ensures.1 in
+    rw (refused.1, refused.2)
+    (put_none _ c.requires.0 _ c.requires.1 _ _ content long (sym c.is_legal.ensures ∙ c.if-not-is_legal.false) c.if-size-eq0.false c.slot_named.ensures c.in_default.is
+    c.empty_slot.ensures c.ok_or.ensures.value c.in_err-slot.was)
 
 pub returns : goal.returns
 returns c =
-    let legal : (let a = c.args in is_legal a.layout a.name.now a.letter ≡ true) = sym c.is_legal.ensures ∙ c.if-not-is_legal.false in
-    λ content long. put_room _ c.requires.0 _ c.requires.1 _ _ content long legal c.if-size-eq0.false c.slot_named-taken.ensures c.in_default.is c.empty_slot-empty.ensures c.in-At-empty.is c.requires.2
-    c.judge_room.ensures
+    λ content long.
+    let legal = sym c.is_legal.ensures ∙ c.if-not-is_legal.false in
+    let found = put_some _ c.requires.0 _ c.requires.1 _ _ content long legal c.if-size-eq0.false c.slot_named.ensures c.in_default.is c.empty_slot.ensures c.ok_or.ensures.value c.in_ok-slot.was in
+    put_room _ c.requires.0 _ c.requires.1 _ _ content long legal c.if-size-eq0.false c.slot_named.ensures c.in_default.is c.empty_slot.ensures found c.requires.2 c.judge_room.ensures

@@ -1,23 +1,21 @@
 -- `calls::list` meets its contract: a refused image answers the check's refusal, an accepted one what the record says.
 -- The check's answer is taken apart, and the layout is that of its kind and density. Assumes nothing.
 use Rattle.std.proofs.Common.{subst}
+use Rattle.std.proofs.lemmas.Result.{err_from_is_err_and}
 use Rattle.calls.specs.Answers.{Lists}
 use Rattle.calls.specs.Lemmas.Answers.{lists_refused}
-use Rattle.calls.specs.Lemmas.Done.{done-right, done-rules, list_done}
+use Rattle.calls.specs.Lemmas.Done.{done_needs, list_done}
 use Rattle.calls.proofs.list.Goals as goal
 
-pub returns-in_default : goal.returns-in_default
-returns-in_default c =
-    let a = c.args in
-    lists_refused a.image.now a.slot c.check-checked.ensures c.in_default.is c.refusal_of.ensures c.unlisted.ensures
+pub returns-in_err-kind : goal.returns-in_err-kind
+returns-in_err-kind c =
+    let refused = err_from_is_err_and c.from_residual.result c.from_residual.ensures.1 in
+    rw (refused.1, refused.2) (lists_refused _ _ c.check.ensures c.in_err-kind.was)
 
 pub list_slot-requires : goal.list_slot-requires
-list_slot-requires c =
-    let img = c.args.image.now in
-    let yes = c.in-Accepted.is in
-    (done-right img c.check-checked.ensures yes c.layout_of-layout.ensures, done-rules img c.check-checked.ensures yes c.layout_of-layout.ensures)
+list_slot-requires c = done_needs _ c.check.ensures c.in_ok-kind.was c.layout_of-layout.ensures
 
 pub returns : goal.returns
 returns c =
-    let a = c.args in
-    subst (λ o. Lists a.image.now o c.list_slot.result) (list_done a.image.now c.check-checked.ensures c.in-Accepted.is c.layout_of-layout.ensures a.slot) c.list_slot.ensures
+    let img = c.args.image.now in
+    subst (λ o. Lists img o c.list_slot.result) (list_done img c.check.ensures c.in_ok-kind.was c.layout_of-layout.ensures c.args.slot) c.list_slot.ensures

@@ -11,14 +11,14 @@ pub returns-then-slot-slots : goal.returns-then-slot-slots
 returns-then-slot-slots c =
     let l = c.args.layout in
     let img = c.args.image.now in
-    lists_none img _ (file_above l img c.args.slot c.if-slot-slots.true) c.no_file.ensures
+    lists_none img _ (file_above l img c.args.slot c.if-slot-slots.true)
 
 pub returns-then-not-is_used : goal.returns-then-not-is_used
 returns-then-not-is_used c =
     let l = c.args.layout in
     let img = c.args.image.now in
     let empty = sym c.is_used.ensures ∙ c.if-not-is_used.true in
-    lists_none img _ (file_empty l img c.args.slot (omega arith) empty) c.no_file-then-not-is_used.ensures
+    lists_none img _ (file_empty l img c.args.slot (omega arith) empty)
 
 pub returns : goal.returns
 returns c =

@@ -1,23 +1,20 @@
 -- `calls::page` meets its contract: a refused image answers the check's refusal, an accepted one what the record says.
 -- The check's answer is taken apart, and the layout is that of its kind and density. Assumes nothing.
 use Rattle.std.proofs.Common.{◌∙◌}
+use Rattle.std.proofs.lemmas.Result.{err_from_is_err_and}
 use Rattle.calls.specs.Answers.{page_call}
 use Rattle.calls.specs.Lemmas.Answers.{call_refused}
-use Rattle.calls.specs.Lemmas.Done.{done-right, done-rules, page-done}
+use Rattle.calls.specs.Lemmas.Done.{done_needs, page-done}
 use Rattle.calls.proofs.page.Goals as goal
 
-pub returns-in_default : goal.returns-in_default
-returns-in_default c =
+pub returns-in_err-kind : goal.returns-in_err-kind
+returns-in_err-kind c =
     let a = c.args in
-    call_refused a.image.now (page_call a.slot a.offset a.out.now) c.check-checked.ensures c.in_default.is c.refusal_of.ensures
+    let refused = err_from_is_err_and c.from_residual.result c.from_residual.ensures.1 in
+    rw (refused.1, refused.2) (call_refused _ (page_call a.slot a.offset a.out.now) c.check.ensures c.in_err-kind.was)
 
-pub page_slot-metered-requires : goal.page_slot-metered-requires
-page_slot-metered-requires c =
-    let img = c.args.image.now in
-    let yes = c.in-Accepted.is in
-    (done-right img c.check-checked.ensures yes c.layout_of-layout.ensures, done-rules img c.check-checked.ensures yes c.layout_of-layout.ensures)
+pub page_slot-requires : goal.page_slot-requires
+page_slot-requires c = done_needs _ c.check.ensures c.in_ok-kind.was c.layout_of-layout.ensures
 
 pub returns : goal.returns
-returns c =
-    let a = c.args in
-    c.page_slot-metered.ensures.image_after ∙ page-done a.image.now c.check-checked.ensures c.in-Accepted.is c.layout_of-layout.ensures a.slot a.offset _
+returns c = c.page_slot.ensures.image_after ∙ page-done _ c.check.ensures c.in_ok-kind.was c.layout_of-layout.ensures c.args.slot c.args.offset _

@@ -1,54 +1,49 @@
 -- `calls::put` meets its contract: a refused image answers the check's refusal, a refused put the record's, and a granted one leaves put's image.
 -- The check's answer is taken apart, then the judgement. Assumes nothing.
 use Rattle.std.proofs.Common.{refl, ap, ◌∙◌, List, ℕ}
+use Rattle.std.proofs.lemmas.Result.{err_from_is_err_and}
 use Rattle.calls.specs.Answers.{put_call}
 use Rattle.calls.specs.Lemmas.Answers.{call_refused}
-use Rattle.calls.specs.Lemmas.Done.{done-right, done-rules, done-free, put_found, put_legal, put_needs, put_granted}
+use Rattle.calls.specs.Lemmas.Done.{done-right, done-rules, done-free, put_refused, put_legal, put_needs, put_granted}
 use Rattle.changes.specs.Changes.{put_area}
 use Rattle.changes.specs.Lemmas.Changes.{put_area_is}
 use Rattle.calls.proofs.put.Goals as goal
 
-pub returns-in_default : goal.returns-in_default
-returns-in_default c =
+pub returns-in_err-kind : goal.returns-in_err-kind
+returns-in_err-kind c =
     let a = c.args in
-    call_refused a.image.now (put_call a.name.now a.letter a.content.now) c.check-checked.ensures c.in_default.is c.refusal_of.ensures
+    let refused = err_from_is_err_and c.from_residual.result c.from_residual.ensures.1 in
+    rw (refused.1, refused.2) (call_refused _ (put_call a.name.now a.letter a.content.now) c.check.ensures c.in_err-kind.was)
 
-pub judge_put-judged-requires : goal.judge_put-judged-requires
-judge_put-judged-requires c =
-    let img = c.args.image.now in
-    let yes = c.in-Accepted.is in
-    (done-right img c.check-checked.ensures yes c.layout_of-layout.ensures, done-rules img c.check-checked.ensures yes c.layout_of-layout.ensures, done-free img c.check-checked.ensures yes c.layout_of-layout.ensures)
+pub judge_put-requires : goal.judge_put-requires
+judge_put-requires c =
+    let yes = c.in_ok-kind.was in
+    let made = c.layout_of-layout.ensures in
+    (done-right _ c.check.ensures yes made, done-rules _ c.check.ensures yes made, done-free _ c.check.ensures yes made)
 
-pub returns-in_default-judged : goal.returns-in_default-judged
-returns-in_default-judged c =
+pub returns-in_err-slot : goal.returns-in_err-slot
+returns-in_err-slot c =
     let a = c.args in
-    let img = a.image.now in
-    let yes = c.in-Accepted.is in
-    let judged = c.judge_put-judged.ensures a.content.now refl in
-    put_found img c.check-checked.ensures yes c.layout_of-layout.ensures a.name.now a.letter a.content.now judged c.in_default-judged.is c.found_by.ensures
+    let refused = err_from_is_err_and c.from_residual-in_err-slot.result c.from_residual-in_err-slot.ensures.1 in
+    rw (refused.1, refused.2)
+    (put_refused _ c.check.ensures c.in_ok-kind.was c.layout_of-layout.ensures a.name.now a.letter a.content.now (c.judge_put.ensures a.content.now refl) c.in_err-slot.was)
 
 pub area_of-area-requires : goal.area_of-area-requires
 area_of-area-requires c =
     let a = c.args in
-    let img = a.image.now in
-    let yes = c.in-Accepted.is in
-    let judged = c.judge_put-judged.ensures a.content.now refl in
-    (done-right img c.check-checked.ensures yes c.layout_of-layout.ensures, put_legal img c.check-checked.ensures yes c.layout_of-layout.ensures a.name.now a.letter a.content.now judged c.in-Grant.is)
+    let yes = c.in_ok-kind.was in
+    let made = c.layout_of-layout.ensures in
+    (done-right _ c.check.ensures yes made, put_legal _ c.check.ensures yes made a.name.now a.letter a.content.now (c.judge_put.ensures a.content.now refl) c.in_ok-slot.was)
 
 pub put_slot-requires : goal.put_slot-requires
 put_slot-requires c =
     let a = c.args in
-    let img = a.image.now in
-    let yes = c.in-Accepted.is in
-    let judged = c.judge_put-judged.ensures a.content.now refl in
-    put_needs img c.check-checked.ensures yes c.layout_of-layout.ensures a.name.now a.letter a.content.now judged c.in-Grant.is
+    put_needs _ c.check.ensures c.in_ok-kind.was c.layout_of-layout.ensures a.name.now a.letter a.content.now (c.judge_put.ensures a.content.now refl) c.in_ok-slot.was
 
 pub returns : goal.returns
 returns c =
     let a = c.args in
     let img = a.image.now in
-    let yes = c.in-Accepted.is in
-    let judged = c.judge_put-judged.ensures a.content.now refl in
     let l = c.layout_of-layout.result in
-    put_granted img c.check-checked.ensures yes c.layout_of-layout.ensures a.name.now a.letter a.content.now judged c.in-Grant.is
-    (c.put_slot.ensures ∙ ap (λ (area : List ℕ). put_area l img c.in-Grant.slot area a.letter a.content.now) c.area_of-area.ensures ∙ put_area_is l img _ a.name.now a.letter a.content.now)
+    put_granted img c.check.ensures c.in_ok-kind.was c.layout_of-layout.ensures a.name.now a.letter a.content.now (c.judge_put.ensures a.content.now refl) c.in_ok-slot.was
+    (c.put_slot.ensures ∙ ap (λ (area : List ℕ). put_area l img c.in_ok-slot.slot area a.letter a.content.now) c.area_of-area.ensures ∙ put_area_is l img _ a.name.now a.letter a.content.now)

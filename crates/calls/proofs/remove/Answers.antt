@@ -1,38 +1,27 @@
 -- `calls::remove` meets its contract: a refused image answers the check's refusal, a refused remove the record's, and a granted one leaves remove's image.
 -- The check's answer is taken apart, then the judgement. Assumes nothing.
+use Rattle.std.proofs.lemmas.Result.{err_from_is_err_and}
 use Rattle.calls.specs.Answers.{remove_call}
 use Rattle.calls.specs.Lemmas.Answers.{call_refused}
-use Rattle.calls.specs.Lemmas.Done.{done-right, done-rules, remove_needs, remove_refused, remove_granted}
+use Rattle.calls.specs.Lemmas.Done.{done_needs, remove_needs, remove_refused, remove_granted}
 use Rattle.calls.proofs.remove.Goals as goal
 
-pub returns-in_default : goal.returns-in_default
-returns-in_default c =
+pub returns-in_err-kind : goal.returns-in_err-kind
+returns-in_err-kind c =
     let a = c.args in
-    call_refused a.image.now (remove_call a.name.now a.letter) c.check-checked.ensures c.in_default.is c.refusal_of.ensures
+    let refused = err_from_is_err_and c.from_residual.result c.from_residual.ensures.1 in
+    rw (refused.1, refused.2) (call_refused _ (remove_call a.name.now a.letter) c.check.ensures c.in_err-kind.was)
 
-pub judge_name-judged-requires : goal.judge_name-judged-requires
-judge_name-judged-requires c =
-    let img = c.args.image.now in
-    let yes = c.in-Accepted.is in
-    (done-right img c.check-checked.ensures yes c.layout_of-layout.ensures, done-rules img c.check-checked.ensures yes c.layout_of-layout.ensures)
+pub judge_name-requires : goal.judge_name-requires
+judge_name-requires c = done_needs _ c.check.ensures c.in_ok-kind.was c.layout_of-layout.ensures
 
 pub remove_slot-requires : goal.remove_slot-requires
-remove_slot-requires c =
-    let a = c.args in
-    let img = a.image.now in
-    let yes = c.in-Accepted.is in
-    remove_needs img c.check-checked.ensures yes c.layout_of-layout.ensures a.name.now a.letter c.judge_name-judged.ensures c.in-Grant.is
+remove_slot-requires c = remove_needs _ c.check.ensures c.in_ok-kind.was c.layout_of-layout.ensures _ _ c.judge_name.ensures c.in_ok-slot.was
 
-pub returns-in-Refuse : goal.returns-in-Refuse
-returns-in-Refuse c =
-    let a = c.args in
-    let img = a.image.now in
-    let yes = c.in-Accepted.is in
-    remove_refused img c.check-checked.ensures yes c.layout_of-layout.ensures a.name.now a.letter c.judge_name-judged.ensures c.in-Refuse.is
+pub returns-in_err-slot : goal.returns-in_err-slot
+returns-in_err-slot c =
+    let refused = err_from_is_err_and c.from_residual-in_err-slot.result c.from_residual-in_err-slot.ensures.1 in
+    rw (refused.1, refused.2) (remove_refused _ c.check.ensures c.in_ok-kind.was c.layout_of-layout.ensures _ _ c.judge_name.ensures c.in_err-slot.was)
 
-pub returns-in-Grant : goal.returns-in-Grant
-returns-in-Grant c =
-    let a = c.args in
-    let img = a.image.now in
-    let yes = c.in-Accepted.is in
-    remove_granted img c.check-checked.ensures yes c.layout_of-layout.ensures a.name.now a.letter c.judge_name-judged.ensures c.in-Grant.is c.remove_slot.ensures
+pub returns : goal.returns
+returns c = remove_granted _ c.check.ensures c.in_ok-kind.was c.layout_of-layout.ensures _ _ c.judge_name.ensures c.in_ok-slot.was c.remove_slot.ensures

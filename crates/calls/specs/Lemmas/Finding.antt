@@ -1,15 +1,13 @@
 -- The slot that the record finds for a legal name and type is the lowest slot with the name's area and the type.
 -- On a valid disk a used slot's area is its name's, and a legal name's capitals are its area's; an empty slot has no legal type. Assumes nothing.
-use Rattle.std.specs.Prelude.{◌≡◌, refl, Bool, List, ℕ, ◌<◌, eqb, length}
+use Rattle.std.specs.Prelude.{◌≡◌, refl, Bool, List, ℕ, ◌<◌, eqb, length, Ok, Some, None, ok_or}
 use Rattle.std.proofs.Common.{sym, ◌∙◌, arith, zero-add, lt-ltb}
 use Rattle.std.proofs.Math.Path.{ap}
 use Rattle.std.proofs.Math.Bool.{true, false}
 use Rattle.laws.specs.Truth.{both}
 use Rattle.laws.specs.Lemmas.Truth.{both_true, same_truth}
-use Rattle.laws.specs.Scan.{lowest}
+use Rattle.laws.specs.Scan.{lowest, Lowest}
 use Rattle.laws.specs.Lemmas.Scan.{lowest_cong}
-use Rattle.laws.specs.declared.Lowest.{Lowest}
-use Rattle.laws.specs.declared.Lowest.TheVariants.{At, Nowhere}
 use Rattle.laws.specs.Lists.{same}
 use Rattle.laws.specs.Lemmas.Lists.{same_refl, same_true}
 use Rattle.laws.specs.Reader.{bytes, tab}
@@ -27,7 +25,7 @@ use Rattle.slots.specs.Keys.{Key, has_keys}
 use Rattle.slots.specs.Lemmas.Keys.{keys_area}
 use Rattle.record.specs.Record.{Files, refuse, is_legal, named, slot_of, judge_name}
 use Rattle.record.specs.Order.{order_illegal, order_missing, order_found}
-use Rattle.record.specs.declared.Judged.TheVariants.{Grant}
+use Rattle.laws.specs.Refusals.{refusal_at}
 
 module _ (l : Layout) (right : LayoutRight l) (img : List ℕ) (rules : DiskRules l img) (name : List ℕ) (type : ℕ) (legal : is_legal l name type ≡ true) where
   parts : (legal_name l name ≡ true) × (legal_type l type ≡ true)
@@ -85,8 +83,16 @@ module _ (l : Layout) (files : Files) (name : List ℕ) (type : ℕ) where
   judge_illegal e = sym (order_illegal l files name type e)
 
   module _ (legal : is_legal l name type ≡ true) {r : Lowest} (slot : r ≡ slot_of l files name type) where
-    pub judge_found : {s : ℕ} → r ≡ At s → Grant s ≡ judge_name l files name type
+    judge_found : {s : ℕ} → r ≡ Some s → Ok s ≡ judge_name l files name type
     judge_found e = sym (order_found l files name type legal (sym slot ∙ e))
 
-    pub judge_none : r ≡ Nowhere → refuse 10 0 ≡ judge_name l files name type
+    judge_none : r ≡ None → refuse 10 0 ≡ judge_name l files name type
     judge_none e = sym (order_missing l files name type legal (sym slot ∙ e))
+
+    -- both at once
+    pub judge_by : ok_or r (refusal_at 10 0) ≡ judge_name l files name type
+    judge_by = go r refl
+      where
+        go : (w : Lowest) → r ≡ w → ok_or r (refusal_at 10 0) ≡ judge_name l files name type
+        go (Some s) e = rw e (judge_found e)
+        go None e = rw e (judge_none e)

@@ -1,6 +1,6 @@
 -- What list answers for a slot without a file and for a used one.
 -- The 12 bytes are the name and zeros, so their first letters are the name. Assumes nothing.
-use Rattle.std.specs.Prelude.{◌≡◌, refl, true, List, ℕ, ◌+◌, ◌-◌, ◌≤◌, ◌<◌, length, take, drop}
+use Rattle.std.specs.Prelude.{◌≡◌, refl, true, List, ℕ, ◌+◌, ◌-◌, ◌≤◌, ◌<◌, length, take, drop, Ok, Err}
 use Rattle.std.proofs.Common.{sym, ap, ◌∙◌, arith}
 use Rattle.std.proofs.Math.Option.{Option, none}
 use Rattle.laws.specs.Splice.{part}
@@ -18,13 +18,11 @@ use Rattle.laws.specs.Refusals.{refusal_at}
 use Rattle.image.specs.Image.{entry_at, view_of, files_in, DiskRules}
 use Rattle.image.specs.Lemmas.Entries.{length-area}
 use Rattle.record.specs.Record.{file_at, listing}
-use Rattle.calls.specs.declared.Listed.{Listed}
-use Rattle.calls.specs.declared.Entry.TheVariants as entries
-use Rattle.calls.specs.Answers.{Lists, unlisted_by}
+use Rattle.calls.specs.Answers.{Lists}
 use Rattle.calls.specs.Lemmas.Slots.{file-used, file-length, slot_held}
 
-pub lists_none : (img : List ℕ) (w : Option File) {r : Listed} → w ≡ none → r ≡ unlisted_by (refusal_at 10 0) → Lists img (listing img w) r
-lists_none img w e q = rw (e, q) (record { answer = refl; letters = refl; name = sym (padded_nil 12) })
+pub lists_none : (img : List ℕ) (w : Option File) → w ≡ none → Lists img (listing img w) (Err (refusal_at 10 0))
+lists_none img w e = rw e (record { answer = refl; letters = refl; name = sym (padded_nil 12) })
 
 -- a part of 16 bytes that was lent by its end
 pub lent-area : (img : List ℕ) (at : ℕ) → at + 16 ≤ length img → take (at + 16 - at) (drop at img) ≡ tab (bytes img) at 16
@@ -35,7 +33,7 @@ module _ (l : Layout) (right : LayoutRight l) (img : List ℕ) (rules : DiskRule
     (here : used ((view_of l (bytes img)).entry s) ≡ true) where
   pub lists_file : {letter size : ℕ} {name : List ℕ} → letter ≡ ((view_of l (bytes img)).entry s).type → size ≡ ((view_of l (bytes img)).entry s).size
       → name ≡ padded (name_of l ((view_of l (bytes img)).entry s).area) 12
-      → Lists img (listing img (file_at l (files_in l img) s)) (record { entry = entries.File l.letters letter size; name = name })
+      → Lists img (listing img (file_at l (files_in l img) s)) (Ok (record { letters = l.letters; letter = letter; length = size; name = name }))
   lists_file t z n =
       let given = name_of l ((view_of l (bytes img)).entry s).area in
       let long : length given ≡ l.letters = length-name l right ((view_of l (bytes img)).entry s).area (length-area (bytes img) (slot_offset l s)) in

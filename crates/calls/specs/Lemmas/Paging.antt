@@ -1,6 +1,6 @@
 -- A page's bytes and cost: a part of a content is that part of its chain's blocks, and written to the front of the output it leaves the rest; the
 -- chain has as many blocks as the file. By the laws of parts and splices. Assumes nothing.
-use Rattle.std.specs.Prelude.{◌≡◌, refl, Bool, true, List, ◌++◌, ℕ, ◌+◌, ◌-◌, ◌/◌, ◌≤◌, ◌<◌, min, eqb, take, drop}
+use Rattle.std.specs.Prelude.{◌≡◌, refl, Bool, true, List, ◌++◌, ℕ, ◌+◌, ◌-◌, ◌/◌, ◌≤◌, ◌<◌, min, eqb, take, drop, Ok}
 use Rattle.std.proofs.Common.{sym, ap, ◌∙◌, arith, lt-ltb, le-ltb, length-take-le, get_or-take}
 use Rattle.std.proofs.Math.Option.{Option, none, some}
 use Rattle.std.proofs.Math.ListN.{length, length-take}
@@ -23,10 +23,10 @@ use Rattle.rules.specs.Check.{came}
 use Rattle.pages.specs.declared.Cost.{Cost}
 use Rattle.pages.specs.Cost.{cost_of, cost_none}
 use Rattle.calls.specs.declared.Metered.{Metered}
-use Rattle.calls.specs.declared.Paged.TheVariants as pages
 use Rattle.calls.specs.Answers.{paged_of, unpaged_by}
 use Rattle.calls.specs.Metered.{page_cost}
 use Rattle.calls.specs.Lemmas.Slots.{slot_file, file-length}
+use Rattle.laws.specs.Refusals.{refusal_at}
 
 -- a part that lies in the front
 pub part-take : (l : List ℕ) (size from n : ℕ) → from + n ≤ size → size ≤ length l → part (take size l) from n ≡ part l from n
@@ -61,15 +61,15 @@ module _ (img : List ℕ) (w : Option File) (offset : ℕ) (o : List ℕ) where
   abbrev Due : Metered → List ℕ → Type 0
   Due r q = (came (paged_of r.paged) q img ≡ paging img w offset o) × (r.cost ≡ page_cost w offset (length o))
 
-  pub meters_none : (r : Metered) {q : List ℕ} → w ≡ none → r ≡ unpaged_by (record { number = 10; place = 0 }) → q ≡ o → Due r q
+  pub meters_none : (r : Metered) {q : List ℕ} → w ≡ none → r ≡ unpaged_by (refusal_at 10 0) → q ≡ o → Due r q
   meters_none r e t p = rw t (pages_none e p, rw e refl)
 
-  pub meters_above : (r : Metered) (f : File) (size : ℕ) {q : List ℕ} → w ≡ some f → length f.content ≡ size → size < offset → r ≡ unpaged_by (record { number = 17; place = 0 }) → q ≡ o → Due r q
+  pub meters_above : (r : Metered) (f : File) (size : ℕ) {q : List ℕ} → w ≡ some f → length f.content ≡ size → size < offset → r ≡ unpaged_by (refusal_at 17 0) → q ≡ o → Due r q
   meters_above r f size e n h t p =
       rw t (pages_above f size e n h p, rw e (sym (cost_none (blocks_for (length f.content)) offset (min (length o) (length f.content - offset)) (omega arith))))
 
   pub meters_file : (f : File) (size count : ℕ) {end : Bool} {cost : Cost} {q : List ℕ} → w ≡ some f → length f.content ≡ size → 1 ≤ size → offset ≤ size → count ≡ min (length o) (size - offset)
-      → end ≡ eqb (offset + count) size → q ≡ splice o 0 (part f.content offset count) → cost ≡ cost_of ((size - 1) / 1024 + 1) offset count → Due (record { paged = pages.Page count end; cost = cost }) q
+      → end ≡ eqb (offset + count) size → q ≡ splice o 0 (part f.content offset count) → cost ≡ cost_of ((size - 1) / 1024 + 1) offset count → Due (record { paged = Ok (record { count = count; end = end }); cost = cost }) q
   meters_file f size count e n least h k t p v =
       let b : (size - 1) / 1024 + 1 ≡ blocks_for (length f.content) = omega arith in
       let r : min (length o) (size - offset) ≡ min (length o) (length f.content - offset) = omega arith in

@@ -1,25 +1,23 @@
 -- Put's judgement step by step, as the code takes it.
 -- On a valid disk the record's empty slot and free blocks are those of the entries and the map. Assumes nothing.
-use Rattle.std.specs.Prelude.{◌≡◌, refl, true, false, List, ℕ, ◌≤◌, ◌<◌, length}
+use Rattle.std.specs.Prelude.{◌≡◌, refl, true, false, List, ℕ, ◌≤◌, ◌<◌, length, Ok, Some, None, ok_or, Err}
 use Rattle.std.proofs.Math.Path.{sym}
-use Rattle.std.proofs.Common.{ap₂, ◌∙◌, arith, lt-ltb, le-ltb}
+use Rattle.std.proofs.Common.{ap₂, ◌∙◌, arith, lt-ltb, le-ltb, ap}
 use Rattle.std.proofs.Math.Bool.{not}
-use Rattle.laws.specs.Scan.{lowest}
+use Rattle.laws.specs.Scan.{lowest, Lowest}
 use Rattle.laws.specs.Lemmas.Scan.{lowest_cong}
 use Rattle.laws.specs.Reader.{bytes}
-use Rattle.laws.specs.declared.Lowest.{Lowest}
-use Rattle.laws.specs.declared.Lowest.TheVariants.{At, Nowhere}
 use Rattle.layout.specs.declared.Layout.{Layout}
 use Rattle.layout.specs.Right.{LayoutRight}
 use Rattle.blocks.specs.Blocks.{blocks_for}
 use Rattle.map.specs.Map.{map_at, free_count}
 use Rattle.view.specs.Disk.{used}
 use Rattle.image.specs.Image.{view_of, files_in, DiskRules}
-use Rattle.record.specs.Record.{refuse, is_legal, is_empty, slot_of, empty_slot, judge_put}
+use Rattle.record.specs.Record.{refuse, is_legal, is_empty, slot_of, empty_slot, judge_put, Judged}
 use Rattle.record.specs.Order.{room_for, order_unfit, order_empty, order_taken, order_full, order_room}
 use Rattle.record.specs.Lemmas.Update.{empty_used, free_is}
-use Rattle.record.specs.declared.Judged.{Judged}
-use Rattle.record.specs.declared.Judged.TheVariants.{Grant}
+use Rattle.laws.specs.Refusals.{refusal_at}
+use Rattle.laws.specs.declared.Refusal.{Refusal}
 
 -- wanted is how many blocks a content of this size needs
 module _ (free size slot wanted : ℕ) (needs : wanted ≡ blocks_for size) where
@@ -29,7 +27,7 @@ module _ (free size slot wanted : ℕ) (needs : wanted ≡ blocks_for size) wher
   pub room_long : wanted ≤ free → 16777215 < size → refuse 16 0 ≡ room_for free size slot
   room_long h k = rw (le-ltb free (blocks_for size) (omega arith), lt-ltb 16777215 size k) refl
 
-  pub room_some : wanted ≤ free → size ≤ 16777215 → Grant slot ≡ room_for free size slot
+  pub room_some : wanted ≤ free → size ≤ 16777215 → Ok slot ≡ room_for free size slot
   room_some h k = rw (le-ltb free (blocks_for size) (omega arith), le-ltb 16777215 size k) refl
 
 module _ (l : Layout) (right : LayoutRight l) (img : List ℕ) (rules : DiskRules l img) (name : List ℕ) (type : ℕ) (content : List ℕ) {size : ℕ} (long : length content ≡ size) where
@@ -44,20 +42,35 @@ module _ (l : Layout) (right : LayoutRight l) (img : List ℕ) (rules : DiskRule
       nonzero : length content ≡ 0 → ⊥
       nonzero e = some (sym long ∙ e)
 
-      pub put_taken : {s : ℕ} → taken ≡ At s → refuse 12 s ≡ judge_put l (files_in l img) name type content
+      pub put_taken : {s : ℕ} → taken ≡ Some s → refuse 12 s ≡ judge_put l (files_in l img) name type content
       put_taken e = sym (order_taken l (files_in l img) name type content legal nonzero (sym slot ∙ e))
 
-      module _ (new : taken ≡ Nowhere) {empty : Lowest} (found : empty ≡ lowest (λ s. not (used ((view_of l (bytes img)).entry s))) 0 l.slots) where
+      module _ (new : taken ≡ None) {empty : Lowest} (found : empty ≡ lowest (λ s. not (used ((view_of l (bytes img)).entry s))) 0 l.slots) where
         empty_slot_is : empty_slot l (files_in l img) ≡ empty
         unfolding empty_slot
         empty_slot_is =
             lowest_cong (λ s. is_empty (files_in l img s)) (λ s. not (used ((view_of l (bytes img)).entry s))) 0 l.slots
             (λ s p q. empty_used l (view_of l (bytes img)) s (omega arith)) ∙ sym found
 
-        pub put_full : empty ≡ Nowhere → refuse 14 0 ≡ judge_put l (files_in l img) name type content
+        put_full : empty ≡ None → refuse 14 0 ≡ judge_put l (files_in l img) name type content
         put_full e = sym (order_full l (files_in l img) name type content legal nonzero (sym slot ∙ new) (empty_slot_is ∙ e))
 
-        pub put_room : {s : ℕ} {r : Judged} {blocks : ℕ} → empty ≡ At s → blocks ≡ free_count l (map_at (bytes img)) → r ≡ room_for blocks size s
+        -- the slot asked for, or its refusal
+        pub put_none : {q : Judged} {w : Refusal} → q ≡ ok_or empty (refusal_at 14 0) → q ≡ Err w → Err w ≡ judge_put l (files_in l img) name type content
+        put_none {q} {w} asked e = go empty refl
+          where
+            go : (x : Lowest) → empty ≡ x → Err w ≡ judge_put l (files_in l img) name type content
+            go (Some s) z = absurd (let y : ◌≡◌ {A = Judged} (Err w) (Ok s) = sym e ∙ asked ∙ rw z refl in let o : ◌≡◌ {A = ℕ} 0 1 = cc in omega arith)
+            go None z = sym e ∙ asked ∙ rw z (put_full z)
+
+        pub put_some : {q : Judged} {s : ℕ} → q ≡ ok_or empty (refusal_at 14 0) → q ≡ Ok s → empty ≡ Some s
+        put_some {q} {s} asked e = go empty refl
+          where
+            go : (x : Lowest) → empty ≡ x → empty ≡ Some s
+            go (Some t) z = let y : ◌≡◌ {A = Judged} (Ok t) (Ok s) = sym (asked ∙ rw z refl) ∙ e in let t : t ≡ s = cc in z ∙ ap Some t
+            go None z = absurd (let y : ◌≡◌ {A = Judged} (Err (refusal_at 14 0)) (Ok s) = sym (asked ∙ rw z refl) ∙ e in let o : ◌≡◌ {A = ℕ} 0 1 = cc in omega arith)
+
+        pub put_room : {s : ℕ} {r : Judged} {blocks : ℕ} → empty ≡ Some s → blocks ≡ free_count l (map_at (bytes img)) → r ≡ room_for blocks size s
             → r ≡ judge_put l (files_in l img) name type content
         put_room {s} e n t =
             t ∙ ap₂ (λ (b c : ℕ). room_for b c s) (n ∙ sym (free_is l right img rules)) (sym long)

@@ -1,6 +1,6 @@
 -- Salvage by what is known of the image, and by the report's length.
 -- Among the calls it comes to the run on any bytes. Assumes nothing.
-use Rattle.std.specs.Prelude.{◌≡◌, List, ℕ, ◌≤◌, ◌<◌, length}
+use Rattle.std.specs.Prelude.{◌≡◌, List, ℕ, ◌≤◌, ◌<◌, length, Err}
 use Rattle.std.proofs.Math.Path.{refl, sym, ap}
 use Rattle.std.proofs.Common.{◌∙◌, le-ltb, lt-ltb}
 use Rattle.laws.specs.declared.Refusal.{Refusal}
@@ -12,9 +12,7 @@ use Rattle.layout.specs.Right.{LayoutRight}
 use Rattle.layout.proofs.Right.{layout_right}
 use Rattle.salvage.specs.Salvage.{salvage_image, map_changes, report_after}
 use Rattle.record.specs.Record.{salvage, refused, refused_by, valued, Outcome}
-use Rattle.rules.specs.declared.Known.{Known}
-use Rattle.rules.specs.declared.Known.TheVariants.{Disk, Unknown}
-use Rattle.rules.specs.Check.{known_of, known_start, came, salvage_as, salvage_known, salvage_of, call_of}
+use Rattle.rules.specs.Check.{known_of, known_start, came, salvage_as, salvage_known, salvage_of, call_of, Known, known_as}
 use Rattle.rules.specs.Head.{whole_known}
 use Rattle.rules.specs.Salvage.{salvage_unknown}
 use Rattle.rules.proofs.Salvage.{salvage_call_is, known_size}
@@ -33,11 +31,11 @@ module _ (img : List ℕ) {x : Known} (known : x ≡ known_start img (length img
   is : x ≡ known_of img
   is = known ∙ whole_known img
 
-  pub unknown_call : (report : List ℕ) {r : Refusal} → x ≡ Unknown r → came (refused_by r) report img ≡ call_of img (salvage report)
+  pub unknown_call : (report : List ℕ) {r : Refusal} → x ≡ Err r → came (refused_by r) report img ≡ call_of img (salvage report)
   unknown_call report e = sym (salvage_call_is img report ∙ salvage_unknown img report _ (sym is ∙ e))
 
   -- l being the layout that the code makes
-  module _ {k : Kind} {d : Density} {l : Layout} (disk : x ≡ Disk k d) (made : l ≡ layout_of k d) where
+  module _ {k : Kind} {d : Density} {l : Layout} (disk : x ≡ known_as k d) (made : l ≡ layout_of k d) where
     pub disk_right : LayoutRight l × (length img ≡ image_length l)
     disk_right = rw made (layout_right k d, known_size k d img (sym is ∙ disk))
 

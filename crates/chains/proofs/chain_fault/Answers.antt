@@ -11,7 +11,6 @@ use Rattle.laws.specs.Lemmas.Truth.{true_both, false_both}
 use Rattle.laws.specs.Reader.{bytes}
 use Rattle.laws.specs.Refusals.{refusal_at}
 use Rattle.laws.specs.Scan.{lowest}
-use Rattle.laws.specs.declared.Lowest.TheVariants.{At}
 use Rattle.layout.specs.Right.{LayoutRight}
 use Rattle.layout.specs.declared.Layout.{Layout}
 use Rattle.map.specs.Lemmas.Chains.{chain_data}
@@ -21,8 +20,8 @@ use Rattle.map.proofs.Lemmas.Walks.{walk_chained}
 use Rattle.map.specs.Map.{map_at, is_link, chain, Chained, Walk, Whole, Bad, Cut, walk, is_whole, fault_of, marked, Marks}
 use Rattle.view.specs.Disk.{View, used, owned}
 use Rattle.view.specs.Rules.{walk_of, broken, or_fail}
-use Rattle.view.specs.declared.Ruled.TheVariants.{Pass, Fail}
 use Rattle.chains.proofs.chain_fault.Goals as goal
+use Rattle.std.specs.Prelude.{Ok, Some, Err}
 
 -- ---- a slot's walk and the search's test
 
@@ -41,10 +40,10 @@ module _ (l : Layout) (v : View) (s : ℕ) where
 
   -- the lowest slot whose walk is not whole is the fault, by the refusal of its walk
   stop_at : (n : ℕ) (w : Walk) → s < n → used (v.entry s) ≡ true → walk_of l v s ≡ w → is_whole w ≡ false → lowest (broken l v) 0 n ≡ lowest (broken l v) s (n - s)
-      → Fail (refusal_at (fault_of w) s) ≡ or_fail (λ t. fault_of (walk_of l v t)) (lowest (broken l v) 0 n) Pass
+      → Err (refusal_at (fault_of w) s) ≡ or_fail (λ t. fault_of (walk_of l v t)) (lowest (broken l v) 0 n) (Ok tt)
   stop_at n w h u e f i =
       let bad : broken l v s ≡ true = unfold broken in true_both (used (v.entry s)) (not (is_whole (walk_of l v s))) u (ap (λ (x : Walk). not (is_whole x)) e ∙ ap not f) in
-      let found : lowest (broken l v) 0 n ≡ At s = i ∙ lowest_stop (broken l v) s n h bad in
+      let found : lowest (broken l v) 0 n ≡ Some s = i ∙ lowest_stop (broken l v) s n h bad in
       rw (found, e)
 
   -- with a faultless chain's they are the marks of one slot more
@@ -106,17 +105,17 @@ loop-layout-preserved c =
 
 pub returns-then-not-is_link : goal.returns-then-not-is_link
 returns-then-not-is_link c =
-    let stopped : ((w : Walk) → (let a = c.args in let v = view_of a.layout (bytes a.head.now) in let s = c.slots.next in walk a.layout (map_at (bytes a.head.now)) c.loop-layout.left c.loop-layout.block ≡ w → is_whole w ≡ false → (ms : List Bool) → Followed a.layout v ms (Fail (refusal_at (fault_of w) s)))) = λ w e f ms. record { fault = stop_at _ _ _ _ w c.if-end-next.false (sym c.is_used.ensures ∙ c.if-not-is_used.false) (c.loop-layout.invariant.0 ∙ e) f c.slots.invariant.2; marks_all = λ p. let z : ◌≡◌ {A = ℕ} 0 1 = cc in absurd (omega arith) } in
+    let stopped : ((w : Walk) → (let a = c.args in let v = view_of a.layout (bytes a.head.now) in let s = c.slots.next in walk a.layout (map_at (bytes a.head.now)) c.loop-layout.left c.loop-layout.block ≡ w → is_whole w ≡ false → (ms : List Bool) → Followed a.layout v ms (Err (refusal_at (fault_of w) s)))) = λ w e f ms. record { fault = stop_at _ _ _ _ w c.if-end-next.false (sym c.is_used.ensures ∙ c.if-not-is_used.false) (c.loop-layout.invariant.0 ∙ e) f c.slots.invariant.2; marks_all = λ p. let z : ◌≡◌ {A = ℕ} 0 1 = cc in absurd (omega arith) } in
     stopped Bad (walk_bad _ _ _ _ (sym c.is_link.ensures ∙ c.if-not-is_link.true)) refl _
 
 pub returns-else-value-mark : goal.returns-else-value-mark
 returns-else-value-mark c =
     let linked : (is_link c.args.layout c.loop-layout.block ≡ true) = sym c.is_link.ensures ∙ c.if-not-is_link.false in
-    let stopped : ((w : Walk) → (let a = c.args in let v = view_of a.layout (bytes a.head.now) in let s = c.slots.next in walk a.layout (map_at (bytes a.head.now)) c.loop-layout.left c.loop-layout.block ≡ w → is_whole w ≡ false → (ms : List Bool) → Followed a.layout v ms (Fail (refusal_at (fault_of w) s)))) = λ w e f ms. record { fault = stop_at _ _ _ _ w c.if-end-next.false (sym c.is_used.ensures ∙ c.if-not-is_used.false) (c.loop-layout.invariant.0 ∙ e) f c.slots.invariant.2; marks_all = λ p. let z : ◌≡◌ {A = ℕ} 0 1 = cc in absurd (omega arith) } in
+    let stopped : ((w : Walk) → (let a = c.args in let v = view_of a.layout (bytes a.head.now) in let s = c.slots.next in walk a.layout (map_at (bytes a.head.now)) c.loop-layout.left c.loop-layout.block ≡ w → is_whole w ≡ false → (ms : List Bool) → Followed a.layout v ms (Err (refusal_at (fault_of w) s)))) = λ w e f ms. record { fault = stop_at _ _ _ _ w c.if-end-next.false (sym c.is_used.ensures ∙ c.if-not-is_used.false) (c.loop-layout.invariant.0 ∙ e) f c.slots.invariant.2; marks_all = λ p. let z : ◌≡◌ {A = ℕ} 0 1 = cc in absurd (omega arith) } in
     stopped Cut (walk-over _ _ _ _ _ linked c.map_at-value.ensures c.if-left-eq0.true c.if-value-mark.false) refl _
 
 pub returns-then-value-mark-2 : goal.returns-then-value-mark-2
 returns-then-value-mark-2 c =
     let linked : (is_link c.args.layout c.loop-layout.block ≡ true) = sym c.is_link.ensures ∙ c.if-not-is_link.false in
-    let stopped : ((w : Walk) → (let a = c.args in let v = view_of a.layout (bytes a.head.now) in let s = c.slots.next in walk a.layout (map_at (bytes a.head.now)) c.loop-layout.left c.loop-layout.block ≡ w → is_whole w ≡ false → (ms : List Bool) → Followed a.layout v ms (Fail (refusal_at (fault_of w) s)))) = λ w e f ms. record { fault = stop_at _ _ _ _ w c.if-end-next.false (sym c.is_used.ensures ∙ c.if-not-is_used.false) (c.loop-layout.invariant.0 ∙ e) f c.slots.invariant.2; marks_all = λ p. let z : ◌≡◌ {A = ℕ} 0 1 = cc in absurd (omega arith) } in
+    let stopped : ((w : Walk) → (let a = c.args in let v = view_of a.layout (bytes a.head.now) in let s = c.slots.next in walk a.layout (map_at (bytes a.head.now)) c.loop-layout.left c.loop-layout.block ≡ w → is_whole w ≡ false → (ms : List Bool) → Followed a.layout v ms (Err (refusal_at (fault_of w) s)))) = λ w e f ms. record { fault = stop_at _ _ _ _ w c.if-end-next.false (sym c.is_used.ensures ∙ c.if-not-is_used.false) (c.loop-layout.invariant.0 ∙ e) f c.slots.invariant.2; marks_all = λ p. let z : ◌≡◌ {A = ℕ} 0 1 = cc in absurd (omega arith) } in
     stopped Cut (walk_cut _ _ _ _ _ linked c.map_at-value.ensures c.if-left-eq0.false c.if-value-mark-2.true) refl _

@@ -1,49 +1,37 @@
 -- `chains::chain_rules` meets its contract: the chains' fault, else the lowest sharing slot, else the lowest stray block, else the free blocks.
 -- Each pass's answer decides the cascade's next step; the marked blocks are those on chains. Assumes nothing.
-use Rattle.std.proofs.Common.{◌≡◌, refl, ◌∙◌}
+use Rattle.std.proofs.Common.{◌∙◌}
+use Rattle.std.proofs.lemmas.Result.{err_from_is_err_and}
 use Rattle.chains.specs.Lemmas.Passes.{chain_faulty, chain_clean, chain_shared, chain-stray, chain_pass}
 use Rattle.chains.specs.Lemmas.Tally.{marks_taken}
-use Rattle.chains.specs.Passes.{taken}
-use Rattle.image.specs.Image.{view_of}
-use Rattle.laws.specs.Reader.{bytes}
-use Rattle.laws.specs.Scan.{lowest}
-use Rattle.laws.specs.declared.Lowest.TheVariants.{Nowhere}
-use Rattle.view.specs.Rules.{broken}
 use Rattle.chains.proofs.chain_rules.Goals as goal
 
-pub chain_fault-fault-requires : goal.chain_fault-fault-requires
-chain_fault-fault-requires c = let p = c.requires in (p.0, p.1, refl)
-
-pub returns-in-Fail : goal.returns-in-Fail
-returns-in-Fail c = chain_faulty _ _ _ c.chain_fault-fault.ensures.fault c.in-Fail.is
-
-pub count_marked-marked-requires : goal.count_marked-marked-requires
-count_marked-marked-requires c = c.requires.0
+pub returns-in_err-chain_fault : goal.returns-in_err-chain_fault
+returns-in_err-chain_fault c =
+    let refused = err_from_is_err_and c.from_residual.result c.from_residual.ensures.1 in
+    rw (refused.1, refused.2) (chain_faulty _ _ _ c.chain_fault.ensures.fault c.in_err-chain_fault.was)
 
 pub shared_slot-shared-requires : goal.shared_slot-shared-requires
 shared_slot-shared-requires c =
-    let clean : ((let a = c.args in lowest (broken a.layout (view_of a.layout (bytes a.head.now))) 0 a.layout.slots ≡ Nowhere)) = chain_clean _ _ c.chain_fault-fault.ensures.fault c.in_default.is in
-    let on_chains : ((let a = c.args in c.count_marked-marked.result ≡ taken a.layout (view_of a.layout (bytes a.head.now)))) = let a = c.args in c.count_marked-marked.ensures ∙ marks_taken a.layout c.requires.0 (view_of a.layout (bytes a.head.now)) _ (c.chain_fault-fault.ensures.marks_all c.in_default.is) in
-    let p = c.requires in (p.0, p.1, clean, on_chains)
+    let passed = c.in_ok-chain_fault.was in
+    let p = c.requires in
+    (p.0, p.1, chain_clean _ _ c.chain_fault.ensures.fault passed, c.count_marked-marked.ensures ∙ marks_taken _ p.0 _ _ (c.chain_fault.ensures.marks_all passed))
 
-pub returns-in-At : goal.returns-in-At
-returns-in-At c =
-    let clean : ((let a = c.args in lowest (broken a.layout (view_of a.layout (bytes a.head.now))) 0 a.layout.slots ≡ Nowhere)) = chain_clean _ _ c.chain_fault-fault.ensures.fault c.in_default.is in
-    chain_shared _ _ _ clean c.shared_slot-shared.ensures c.in-At.is
+pub returns-in-Some : goal.returns-in-Some
+returns-in-Some c = chain_shared _ _ _ (chain_clean _ _ c.chain_fault.ensures.fault c.in_ok-chain_fault.was) c.shared_slot-shared.ensures c.in-Some.is
 
 pub stray_block-stray-requires : goal.stray_block-stray-requires
 stray_block-stray-requires c =
-    let clean : ((let a = c.args in lowest (broken a.layout (view_of a.layout (bytes a.head.now))) 0 a.layout.slots ≡ Nowhere)) = chain_clean _ _ c.chain_fault-fault.ensures.fault c.in_default.is in
-    let on_chains : ((let a = c.args in c.count_marked-marked.result ≡ taken a.layout (view_of a.layout (bytes a.head.now)))) = let a = c.args in c.count_marked-marked.ensures ∙ marks_taken a.layout c.requires.0 (view_of a.layout (bytes a.head.now)) _ (c.chain_fault-fault.ensures.marks_all c.in_default.is) in
+    let passed = c.in_ok-chain_fault.was in
+    let marks = c.chain_fault.ensures.marks_all passed in
     let p = c.requires in
-    (p.0, p.1, clean, on_chains, c.count_free-free.ensures, c.chain_fault-fault.ensures.marks_all c.in_default.is)
+    (p.0, p.1, chain_clean _ _ c.chain_fault.ensures.fault passed, c.count_marked-marked.ensures ∙ marks_taken _ p.0 _ _ marks, c.count_free-free.ensures, marks)
 
-pub returns-in-At-stray : goal.returns-in-At-stray
-returns-in-At-stray c =
-    let clean : ((let a = c.args in lowest (broken a.layout (view_of a.layout (bytes a.head.now))) 0 a.layout.slots ≡ Nowhere)) = chain_clean _ _ c.chain_fault-fault.ensures.fault c.in_default.is in
-    chain-stray _ _ _ clean c.shared_slot-shared.ensures c.in_default-shared.is c.stray_block-stray.ensures c.in-At-stray.is
+pub returns-in-Some-stray : goal.returns-in-Some-stray
+returns-in-Some-stray c =
+    chain-stray _ _ _ (chain_clean _ _ c.chain_fault.ensures.fault c.in_ok-chain_fault.was) c.shared_slot-shared.ensures c.in_default.is c.stray_block-stray.ensures c.in-Some-stray.is
 
 pub returns : goal.returns
 returns c =
-    let clean : ((let a = c.args in lowest (broken a.layout (view_of a.layout (bytes a.head.now))) 0 a.layout.slots ≡ Nowhere)) = chain_clean _ _ c.chain_fault-fault.ensures.fault c.in_default.is in
-    chain_pass _ _ _ clean c.shared_slot-shared.ensures c.in_default-shared.is c.stray_block-stray.ensures c.in_default-stray.is c.count_free-free.ensures
+    chain_pass _ _ _ (chain_clean _ _ c.chain_fault.ensures.fault c.in_ok-chain_fault.was) c.shared_slot-shared.ensures c.in_default.is c.stray_block-stray.ensures c.in_default-stray.is
+    c.count_free-free.ensures

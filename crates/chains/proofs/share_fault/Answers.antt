@@ -10,7 +10,6 @@ use Rattle.laws.specs.Lists.{meets}
 use Rattle.laws.specs.Member.{In}
 use Rattle.laws.specs.Reader.{bytes}
 use Rattle.laws.specs.Scan.{lowest}
-use Rattle.laws.specs.declared.Lowest.TheVariants.{Nowhere}
 use Rattle.layout.specs.Right.{LayoutRight}
 use Rattle.layout.specs.declared.Layout.{Layout}
 use Rattle.map.specs.Lemmas.Chains.{chain_data}
@@ -19,6 +18,7 @@ use Rattle.map.specs.Map.{chain, Chained, touched, marked, Marks}
 use Rattle.view.specs.Disk.{View, used, chain_of, owned}
 use Rattle.view.specs.Rules.{broken, sharing}
 use Rattle.chains.proofs.share_fault.Goals as goal
+use Rattle.std.specs.Prelude.{None}
 
 -- ---- an empty slot: nothing is shared
 
@@ -36,7 +36,7 @@ record Walked (l : Layout) (v : View) (s k b : ℕ) : Type 0 where
 
 module _ (l : Layout) (v : View) (s k b : ℕ) where
   -- where no chain is broken, a used slot's is faultless
-  slot_walked : LayoutRight l → lowest (broken l v) 0 l.slots ≡ Nowhere → s < l.slots → used (v.entry s) ≡ true → k ≡ links_for (v.entry s).size → b ≡ (v.entry s).start
+  slot_walked : LayoutRight l → lowest (broken l v) 0 l.slots ≡ None → s < l.slots → used (v.entry s) ≡ true → k ≡ links_for (v.entry s).size → b ≡ (v.entry s).start
       → Walked l v s k b
   unfolding chain_of
   slot_walked right sound h u links start =

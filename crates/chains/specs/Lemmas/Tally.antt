@@ -1,6 +1,6 @@
 -- Two counts over the data area decide refusals 8 and 9 where no chain is broken: as many marked blocks as the chains have, and no other taken.
 -- A list without repeats has as many numbers as elements, and of two tests that count alike the one implies the other. Assumes nothing.
-use Rattle.std.specs.Prelude.{◌≡◌, true, false, length, get_or}
+use Rattle.std.specs.Prelude.{◌≡◌, true, false, length, get_or, None}
 use Rattle.std.proofs.Math.Path.{refl, ap}
 use Rattle.std.proofs.Common.{◌∙◌, add-one, length-append, ne_eqb}
 use Rattle.std.proofs.Math.Bool.{Bool, not}
@@ -16,7 +16,6 @@ use Rattle.laws.specs.Scan.{lowest, count}
 use Rattle.laws.specs.Lemmas.Scan.{nowhere→, →nowhere, count_cong, count_split, count_agree}
 use Rattle.laws.specs.Member.{In, Distinct, has}
 use Rattle.laws.specs.Lemmas.Member.{has_in, distinct_parts, count_distinct}
-use Rattle.laws.specs.declared.Lowest.TheVariants.{Nowhere}
 use Rattle.layout.specs.declared.Layout.{Layout}
 use Rattle.layout.specs.Right.{LayoutRight}
 use Rattle.blocks.specs.Blocks.{links_for}
@@ -62,7 +61,7 @@ module _ (v : View) (s : ℕ) where
 
 -- ---- where no chain is broken
 
-module _ (l : Layout) (right : LayoutRight l) (v : View) (sound : lowest (broken l v) 0 l.slots ≡ Nowhere) where
+module _ (l : Layout) (right : LayoutRight l) (v : View) (sound : lowest (broken l v) 0 l.slots ≡ None) where
   -- where no chain is broken, a used slot's is faultless
   pub slot_chained : (s : ℕ) → s < l.slots → used (v.entry s) ≡ true → Chained l v.map (links_for (v.entry s).size) (v.entry s).start
   unfolding broken walk_of
@@ -91,7 +90,7 @@ module _ (l : Layout) (right : LayoutRight l) (v : View) (sound : lowest (broken
       go (no p) ih = ih (omega arith) (distinct_parts (owned v n) (chain_of v n) d).0
 
   -- As many blocks on the chains as the chains have: no block is on two.
-  pub tally_apart : taken l v ≡ length (owned v l.slots) → lowest (sharing l v) 0 l.slots ≡ Nowhere
+  pub tally_apart : taken l v ≡ length (owned v l.slots) → lowest (sharing l v) 0 l.slots ≡ None
   unfolding sharing owned
   tally_apart e =
       let inside : (x : ℕ) → In x (owned v l.slots) → (l.first ≤ x) × (x < l.first + (l.blocks - l.first)) =
@@ -102,7 +101,7 @@ module _ (l : Layout) (right : LayoutRight l) (v : View) (sound : lowest (broken
 
   -- They and the free blocks are all: no other block is taken.
   pub tally_all : taken l v + free_count l v.map ≡ l.blocks - l.first
-      → lowest (stray l v) l.first (l.blocks - l.first) ≡ Nowhere
+      → lowest (stray l v) l.first (l.blocks - l.first) ≡ None
   unfolding stray free_count
   tally_all e =
       let free : ℕ → Bool = λ k. eqb (v.map k) 0 in

@@ -35,4 +35,4 @@ written img at area type size start own n p q r t =
 pub returns : goal.returns
 returns c =
     let a = c.args in
-    written a.image.now a.at a.area a.letter a.size a.start a.identity (omega arith) c.copy_part.ensures c.store3.ensures c.store2.ensures c.store2-2.ensures
+    written a.image.now a.at a.area a.letter a.size a.start a.identity (omega arith) c.copy_part.ensures c.store.ensures c.store-2.ensures c.store-3.ensures

@@ -1,6 +1,6 @@
--- `disk::known_kind` meets its contract: where the first directory is passed over the density tells the kind; else S900 if every slot has its identity, S1000
+-- `disk::known_kind` meets its contract: where the (told_of _ c.has_identity.ensures c.layout_of.ensures) directory is passed over the density tells the kind; else S900 if every slot has its identity, S1000
 -- if every slot has that, else refusal 2. By the three tests. Assumes nothing.
-use Rattle.std.proofs.Common.{◌≡◌, ap, ◌∙◌, arith}
+use Rattle.std.proofs.Common.{◌≡◌, ap, ◌∙◌, arith, ℕ, Bool}
 use Rattle.disk.specs.Lemmas.Steps.{directory_held, kinds_over, kinds_900, kinds_1000, kinds_neither}
 use Rattle.laws.specs.Reader.{bytes}
 use Rattle.layout.specs.Layouts.{layout_of}
@@ -8,6 +8,10 @@ use Rattle.layout.specs.declared.Kind.TheVariants.{S900, S1000}
 use Rattle.layout.specs.declared.Layout.{Layout}
 use Rattle.rules.specs.Check.{has_identity}
 use Rattle.disk.proofs.known_kind.Goals as goal
+
+-- what a layout's test says where the layout is a kind's
+told_of : {l m : Layout} (b : ℕ → ℕ) {r : Bool} → r ≡ has_identity l b → l ≡ m → r ≡ has_identity m b
+told_of b e made = e ∙ ap (λ l. has_identity l b) made
 
 pub is_passed_over-requires : goal.is_passed_over-requires
 is_passed_over-requires c = omega (arith, c.requires)
@@ -21,8 +25,7 @@ has_identity-requires c =
 
 pub returns-then-has_identity : goal.returns-then-has_identity
 returns-then-has_identity c =
-    let first : (let a = c.args in c.has_identity.result ≡ has_identity (layout_of S900 a.density) (bytes a.head.now)) = c.has_identity.ensures ∙ ap (λ (l : Layout). has_identity l (bytes c.args.head.now)) c.layout_of.ensures in
-    kinds_900 _ _ c.is_passed_over.ensures c.if-is_passed_over.false first c.if-has_identity.true
+    kinds_900 _ _ c.is_passed_over.ensures c.if-is_passed_over.false (told_of _ c.has_identity.ensures c.layout_of.ensures) c.if-has_identity.true
 
 pub has_identity-requires-2 : goal.has_identity-requires-2
 has_identity-requires-2 c =
@@ -30,12 +33,8 @@ has_identity-requires-2 c =
 
 pub returns-then-has_identity-2 : goal.returns-then-has_identity-2
 returns-then-has_identity-2 c =
-    let first : (let a = c.args in c.has_identity.result ≡ has_identity (layout_of S900 a.density) (bytes a.head.now)) = c.has_identity.ensures ∙ ap (λ (l : Layout). has_identity l (bytes c.args.head.now)) c.layout_of.ensures in
-    let second : (let a = c.args in c.has_identity-2.result ≡ has_identity (layout_of S1000 a.density) (bytes a.head.now)) = c.has_identity-2.ensures ∙ ap (λ (l : Layout). has_identity l (bytes c.args.head.now)) c.layout_of-2.ensures in
-    kinds_1000 _ _ c.is_passed_over.ensures c.if-is_passed_over.false first c.if-has_identity.false second c.if-has_identity-2.true
+    kinds_1000 _ _ c.is_passed_over.ensures c.if-is_passed_over.false (told_of _ c.has_identity.ensures c.layout_of.ensures) c.if-has_identity.false (told_of _ c.has_identity-2.ensures c.layout_of-2.ensures) c.if-has_identity-2.true
 
 pub returns : goal.returns
 returns c =
-    let first : (let a = c.args in c.has_identity.result ≡ has_identity (layout_of S900 a.density) (bytes a.head.now)) = c.has_identity.ensures ∙ ap (λ (l : Layout). has_identity l (bytes c.args.head.now)) c.layout_of.ensures in
-    let second : (let a = c.args in c.has_identity-2.result ≡ has_identity (layout_of S1000 a.density) (bytes a.head.now)) = c.has_identity-2.ensures ∙ ap (λ (l : Layout). has_identity l (bytes c.args.head.now)) c.layout_of-2.ensures in
-    c.no_kind.ensures ∙ kinds_neither _ _ c.is_passed_over.ensures c.if-is_passed_over.false first c.if-has_identity.false second c.if-has_identity-2.false
+    kinds_neither _ _ c.is_passed_over.ensures c.if-is_passed_over.false (told_of _ c.has_identity.ensures c.layout_of.ensures) c.if-has_identity.false (told_of _ c.has_identity-2.ensures c.layout_of-2.ensures) c.if-has_identity-2.false

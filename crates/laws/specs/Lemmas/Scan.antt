@@ -1,6 +1,6 @@
 -- Searches, counts, lists, sums and tests over a range of numbers, with the laws of a loop that makes them: its end, its stop, its next turn.
 -- All are one fold, `over`, so each law is one citation of the fold's. Assumes nothing.
-use Rattle.std.specs.Prelude.{◌≡◌, Bool, not, ◌⊎◌, length}
+use Rattle.std.specs.Prelude.{◌≡◌, Bool, not, ◌⊎◌, length, Some, None}
 use Rattle.std.proofs.Math.Path.{refl}
 use Rattle.std.proofs.Common.{sym, ap, ◌∙◌, true≢false, inl, inr, ⊎_elim, zero-add, add-suc, suc-add}
 use Rattle.std.proofs.Math.Bool.{true, false}
@@ -10,7 +10,6 @@ use Rattle.std.proofs.Math.Decide.{ℕ_discrete, dec_lt}
 use Rattle.std.proofs.Math.Nat.{add-zero}
 use Rattle.std.proofs.Math.Numerals.{add-one}
 use native.Mathlib.Omega.{arith}
-use Rattle.laws.specs.declared.Lowest.TheVariants.{At, Nowhere}
 use Rattle.laws.specs.Truth.{pick, both, within}
 use Rattle.laws.specs.Lemmas.Truth.{clash, within_in, within_below, within_above}
 use Rattle.laws.specs.Member.{In, Distinct}
@@ -37,61 +36,61 @@ over_cong f g end i (suc n) h =
 -- ---- a search
 
 module _ (f : ℕ → Bool) (i n : ℕ) where
-  pub lowest_end : n ≤ i → lowest f i (n - i) ≡ Nowhere
+  pub lowest_end : n ≤ i → lowest f i (n - i) ≡ None
   unfolding lowest
-  lowest_end h = over_end (λ k rest. pick (f k) (At k) rest) Nowhere i n h
+  lowest_end h = over_end (λ k rest. pick (f k) (Some k) rest) None i n h
 
-  pub lowest_stop : i < n → f i ≡ true → lowest f i (n - i) ≡ At i
+  pub lowest_stop : i < n → f i ≡ true → lowest f i (n - i) ≡ Some i
   unfolding lowest
-  lowest_stop h e = over_next (λ k rest. pick (f k) (At k) rest) Nowhere i n h ∙ rw e refl
+  lowest_stop h e = over_next (λ k rest. pick (f k) (Some k) rest) None i n h ∙ rw e refl
 
   pub lowest-on : i < n → f i ≡ false → lowest f i (n - i) ≡ lowest f (i + 1) (n - (i + 1))
   unfolding lowest
-  lowest-on h e = over_next (λ k rest. pick (f k) (At k) rest) Nowhere i n h ∙ rw e refl
+  lowest-on h e = over_next (λ k rest. pick (f k) (Some k) rest) None i n h ∙ rw e refl
 
 -- tests that agree on the range are found at one place
 pub lowest_cong : (f g : ℕ → Bool) (i n : ℕ) → ((k : ℕ) → i ≤ k → k < i + n → f k ≡ g k) → lowest f i n ≡ lowest g i n
 unfolding lowest
-lowest_cong f g i n h = over_cong _ _ Nowhere i n (λ k p q r. ap (λ (t : Bool). pick t (At k) r) (h k p q))
+lowest_cong f g i n h = over_cong _ _ None i n (λ k p q r. ap (λ (t : Bool). pick t (Some k) r) (h k p q))
 
 -- Nowhere: no number in the range passes
-pub nowhere→ : (f : ℕ → Bool) (i n : ℕ) → lowest f i n ≡ Nowhere → (k : ℕ) → i ≤ k → k < i + n → f k ≡ false
+pub nowhere→ : (f : ℕ → Bool) (i n : ℕ) → lowest f i n ≡ None → (k : ℕ) → i ≤ k → k < i + n → f k ≡ false
 unfolding lowest
 nowhere→ f i zero e k h l = absurd (omega arith)
 nowhere→ f i (suc n) e k h l = go (nowhere→ f (suc i) n) (f i) refl (ℕ_discrete k i)
   where
-    go : (lowest f (suc i) n ≡ Nowhere → (j : ℕ) → suc i ≤ j → j < suc i + n → f j ≡ false) → (b : Bool) → f i ≡ b → Dec (k ≡ i) → f k ≡ false
-    go ih true p d = let z : At i ≡ Nowhere = rw p at e in let o : ◌≡◌ {A = ℕ} 0 1 = cc in absurd (omega arith)
+    go : (lowest f (suc i) n ≡ None → (j : ℕ) → suc i ≤ j → j < suc i + n → f j ≡ false) → (b : Bool) → f i ≡ b → Dec (k ≡ i) → f k ≡ false
+    go ih true p d = let z : Some i ≡ None = rw p at e in let o : ◌≡◌ {A = ℕ} 0 1 = cc in absurd (omega arith)
     go ih false p (yes q) = ap f q ∙ p
     go ih false p (no q) = ih (rw p at e) k (omega arith) (omega arith)
 
-pub →nowhere : (f : ℕ → Bool) (i n : ℕ) → ((k : ℕ) → i ≤ k → k < i + n → f k ≡ false) → lowest f i n ≡ Nowhere
+pub →nowhere : (f : ℕ → Bool) (i n : ℕ) → ((k : ℕ) → i ≤ k → k < i + n → f k ≡ false) → lowest f i n ≡ None
 unfolding lowest
 →nowhere f i zero h = refl
 →nowhere f i (suc n) h = rw (h i (omega arith) (omega arith)) (→nowhere f (suc i) n (λ k p q. h k (omega arith) (omega arith)))
 
 -- a place: it lies in the range and passes
-pub at→ : (f : ℕ → Bool) (i n k : ℕ) → lowest f i n ≡ At k → (i ≤ k) × (k < i + n) × (f k ≡ true)
+pub at→ : (f : ℕ → Bool) (i n k : ℕ) → lowest f i n ≡ Some k → (i ≤ k) × (k < i + n) × (f k ≡ true)
 unfolding lowest
 at→ f i zero k e = let o : ◌≡◌ {A = ℕ} 0 1 = cc in absurd (omega arith)
 at→ f i (suc n) k e = go (at→ f (suc i) n k) (f i) refl
   where
-    go : (lowest f (suc i) n ≡ At k → (suc i ≤ k) × (k < suc i + n) × (f k ≡ true)) → (b : Bool) → f i ≡ b → (i ≤ k) × (k < i + suc n) × (f k ≡ true)
+    go : (lowest f (suc i) n ≡ Some k → (suc i ≤ k) × (k < suc i + n) × (f k ≡ true)) → (b : Bool) → f i ≡ b → (i ≤ k) × (k < i + suc n) × (f k ≡ true)
     go ih true p =
-        let z : At i ≡ At k = rw p at e in
+        let z : Some i ≡ Some k = rw p at e in
         let o : i ≡ k = cc in
         (omega arith, omega arith, ap f (sym o) ∙ p)
     go ih false p = let r = ih (rw p at e) in (omega (arith, r.0), omega (arith, r.1), r.2)
 
 -- no number below the lowest passes
-pub lowest_least : (f : ℕ → Bool) (i n k : ℕ) → lowest f i n ≡ At k → (j : ℕ) → i ≤ j → j < i + n → f j ≡ true → k ≤ j
+pub lowest_least : (f : ℕ → Bool) (i n k : ℕ) → lowest f i n ≡ Some k → (j : ℕ) → i ≤ j → j < i + n → f j ≡ true → k ≤ j
 unfolding lowest
 lowest_least f i zero k e j h l t = absurd (omega arith)
 lowest_least f i (suc n) k e j h l t = go (lowest_least f (suc i) n k) (f i) refl (dec_lt i j)
   where
-    go : (lowest f (suc i) n ≡ At k → (m : ℕ) → suc i ≤ m → m < suc i + n → f m ≡ true → k ≤ m) → (b : Bool) → f i ≡ b → Dec (i < j) → k ≤ j
+    go : (lowest f (suc i) n ≡ Some k → (m : ℕ) → suc i ≤ m → m < suc i + n → f m ≡ true → k ≤ m) → (b : Bool) → f i ≡ b → Dec (i < j) → k ≤ j
     go ih true p d =
-        let z : At i ≡ At k = rw p at e in
+        let z : Some i ≡ Some k = rw p at e in
         let o : i ≡ k = cc in
         omega arith
     go ih false p (yes q) = ih (rw p at e) j (omega arith) (omega arith) t

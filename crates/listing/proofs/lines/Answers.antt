@@ -14,12 +14,12 @@ returns-in_default c =
 pub put_slots-next-requires : goal.put_slots-next-requires
 put_slots-next-requires c =
     let a = c.args in
-    let r = accepted_directory a.head.now a.length c.check_head-checked.ensures c.in-Accepted.is c.layout_of.ensures in
+    let r = accepted_directory a.head.now a.length c.check_head-checked.ensures c.in-Ok.is c.layout_of.ensures in
     (r.0, r.1, omega arith)
 
 pub returns : goal.returns
 returns c =
     let a = c.args in
-    rw (lines_accepted a.head.now a.length c.check_head-checked.ensures c.in-Accepted.is c.layout_of.ensures)
+    rw (lines_accepted a.head.now a.length c.check_head-checked.ensures c.in-Ok.is c.layout_of.ensures)
     (puts_fills (puts_then (puts_then c.put_checked-next.ensures c.put-next.ensures) (puts_then c.put_slots-next.ensures (puts_then c.put_number-next.ensures c.put.ensures)))
     (omega (arith, length_puts c.put_checked-next.ensures)))

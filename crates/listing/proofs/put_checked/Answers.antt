@@ -4,11 +4,11 @@ use Rattle.std.proofs.Common.{arith}
 use Rattle.listing.specs.Lemmas.Puts.{puts_near, puts_then}
 use Rattle.listing.proofs.put_checked.Goals as goal
 
-pub returns-in-Accepted : goal.returns-in-Accepted
-returns-in-Accepted c =
+pub returns-in-Ok : goal.returns-in-Ok
+returns-in-Ok c =
     let kind = rw c.kind_number.ensures at c.put_number-next.ensures in
-    rw c.in-Accepted.is
-    (puts_then (puts_then (puts_then kind c.put_density-next.ensures) c.put_number-next-in-Accepted.ensures) c.put_number.ensures)
+    rw c.in-Ok.is
+    (puts_then (puts_then (puts_then kind c.put_density-next.ensures) c.put_number-next-in-Ok.ensures) c.put_number.ensures)
 
-pub returns-in-Refused : goal.returns-in-Refused
-returns-in-Refused c = rw c.in-Refused.is (puts_near c.put_refused.ensures 79 (omega arith))
+pub returns-in-Err : goal.returns-in-Err
+returns-in-Err c = rw c.in-Err.is (puts_near c.put_refused.ensures 79 (omega arith))

@@ -1,10 +1,9 @@
 -- The call for a file's blocks in the steps in which the code takes them.
 -- By whether there is such a slot, whether it is used and whether the output has room. Assumes nothing.
-use Rattle.std.specs.Prelude.{◌≡◌, true, false, List, [], ◌∷◌, ℕ, ◌≤◌, ◌<◌, length}
+use Rattle.std.specs.Prelude.{◌≡◌, true, false, List, [], ◌∷◌, ℕ, ◌≤◌, ◌<◌, length, Err}
 use Rattle.std.proofs.Math.Path.{refl}
 use Rattle.std.proofs.Common.{arith, lt-ltb, le-ltb}
 use Rattle.laws.specs.declared.Refusal.{Refusal}
-use Rattle.laws.specs.declared.Counted.TheVariants.{Refused}
 use Rattle.laws.specs.Refusals.{refusal_at, filled}
 use Rattle.laws.specs.Reader.{bytes}
 use Rattle.layout.specs.declared.Kind.{Kind}
@@ -17,10 +16,7 @@ use Rattle.map.specs.Map.{map_at, chain, Collected}
 use Rattle.map.specs.Lemmas.Chains.{length-chain}
 use Rattle.view.specs.Disk.{used, entry_chain, chain_of}
 use Rattle.image.specs.Image.{view_of}
-use Rattle.rules.specs.declared.Checked.{Checked}
-use Rattle.rules.specs.declared.Checked.TheVariants.{Accepted}
-use Rattle.rules.specs.declared.Checked.TheVariants as checks
-use Rattle.rules.specs.Check.{check_of, refusal_of}
+use Rattle.rules.specs.Check.{check_of, Checked, accepting}
 use Rattle.locate.specs.Locate.{file_blocks, storing, blocks_of}
 
 -- ---- the code's steps
@@ -35,13 +31,13 @@ module _ (l : Layout) (img : List ℕ) (s : ℕ) where
   none_empty h e = rw (lt-ltb s l.slots h, e) refl
 
   module _ (out : List ℕ) where
-    pub blocks_above : l.slots ≤ s → filled (Refused (refusal_at 10 0)) out ≡ storing (file_blocks l img s) out
+    pub blocks_above : l.slots ≤ s → filled (Err (refusal_at 10 0)) out ≡ storing (file_blocks l img s) out
     blocks_above h = rw (none_above h) refl
 
-    pub blocks_empty : s < l.slots → used ((view_of l (bytes img)).entry s) ≡ false → filled (Refused (refusal_at 10 0)) out ≡ storing (file_blocks l img s) out
+    pub blocks_empty : s < l.slots → used ((view_of l (bytes img)).entry s) ≡ false → filled (Err (refusal_at 10 0)) out ≡ storing (file_blocks l img s) out
     blocks_empty h e = rw (none_empty h e) refl
 
-store_short : (blocks out : List ℕ) → 1 ≤ length blocks → length out < length blocks → filled (Refused (refusal_at 21 0)) out ≡ storing blocks out
+store_short : (blocks out : List ℕ) → 1 ≤ length blocks → length out < length blocks → filled (Err (refusal_at 21 0)) out ≡ storing blocks out
 store_short [] out h k = absurd (omega arith)
 store_short (b ∷ bs) out h k = rw (lt-ltb (length out) (length (b ∷ bs)) k) refl
 
@@ -56,16 +52,16 @@ module _ (l : Layout) (img : List ℕ) (s : ℕ) (inside : s < l.slots) (here : 
     pub some_block : 1 ≤ length (chain (map_at (bytes img)) (links_for size) start)
     some_block = omega (arith, length-chain (map_at (bytes img)) (links_for size) start)
 
-    pub blocks_short : length out < r.count → filled (Refused (refusal_at 21 0)) out ≡ storing (file_blocks l img s) out
+    pub blocks_short : length out < r.count → filled (Err (refusal_at 21 0)) out ≡ storing (file_blocks l img s) out
     blocks_short h = rw blocks_are (store_short (chain (map_at (bytes img)) (links_for size) start) out some_block (omega (arith, collected.count)))
 
 -- ---- by the check's answer
 
 module _ (img : List ℕ) (s : ℕ) (out : List ℕ) {c : Checked} (checked : c ≡ check_of img) where
-  pub blocks_refused : {r q : Refusal} → c ≡ checks.Refused r → q ≡ refusal_of c → filled (Refused q) out ≡ blocks_of img s out
+  pub blocks_refused : {r : Refusal} → c ≡ Err r → filled (Err r) out ≡ blocks_of img s out
   unfolding blocks_of
-  blocks_refused e t = rw (← checked, t, e) refl
+  blocks_refused e = rw (← checked, e) refl
 
-  pub blocks_done : {k : Kind} {d : Density} {f n : ℕ} → c ≡ Accepted k d f n → {l : Layout} → l ≡ layout_of k d → storing (file_blocks l img s) out ≡ blocks_of img s out
+  pub blocks_done : {k : Kind} {d : Density} {f n : ℕ} → c ≡ accepting k d f n → {l : Layout} → l ≡ layout_of k d → storing (file_blocks l img s) out ≡ blocks_of img s out
   unfolding blocks_of
   blocks_done e made = rw (← checked, e, made) refl

@@ -1,18 +1,17 @@
 -- What each arm of the code shows of a program's parts and of the check's answer.
 -- By the tests that led there; the loop over parts by the law of its fold. Assumes nothing.
-use Rattle.std.specs.Prelude.{◌≡◌, List, ℕ, ◌+◌, ◌-◌, ◌*◌, ◌<◌, take, drop}
+use Rattle.std.specs.Prelude.{◌≡◌, List, ℕ, ◌+◌, ◌-◌, ◌*◌, ◌<◌, take, drop, Some, None}
 use Rattle.std.proofs.Math.Path.{refl, sym, ap}
 use Rattle.std.proofs.Common.{◌∙◌}
 use native.Mathlib.Omega.{arith}
 use Rattle.laws.specs.Lemmas.Scan.{over_next}
 use Rattle.laws.specs.Splice.{part}
-use Rattle.laws.specs.declared.Lowest.{Lowest}
-use Rattle.laws.specs.declared.Lowest.TheVariants.{At, Nowhere}
 use Rattle.rows.specs.Rows.{or_else, rows_fault}
 use Rattle.headers.specs.declared.Table.{Table}
 use Rattle.headers.specs.Tables.{rows_of}
 use Rattle.program.specs.Program.{table_of, part_fault, parts_fault}
 use Rattle.program.specs.Lemmas.Arms.{RestOf}
+use Rattle.laws.specs.Scan.{Lowest}
 
 -- ---- the loop
 
@@ -24,10 +23,10 @@ module _ (file : List ℕ) (n k : ℕ) {at end : ℕ} {table : Table} {f : Lowes
 
   rest_by : {g : Lowest} → f ≡ g → or_else g (parts_fault file (k + 1) (n - (k + 1))) ≡ parts_fault file 0 n
   unfolding parts_fault
-  rest_by t = ap (λ (x : Lowest). or_else x (parts_fault file (k + 1) (n - (k + 1)))) (sym t ∙ part_is) ∙ sym (over_next (λ i rest. or_else (part_fault file i) rest) Nowhere k n h) ∙ v
+  rest_by t = ap (λ (x : Lowest). or_else x (parts_fault file (k + 1) (n - (k + 1)))) (sym t ∙ part_is) ∙ sym (over_next (λ i rest. or_else (part_fault file i) rest) None k n h) ∙ v
 
-  pub part_stop : {place : ℕ} → f ≡ At place → At place ≡ parts_fault file 0 n
+  pub part_stop : {place : ℕ} → f ≡ Some place → Some place ≡ parts_fault file 0 n
   part_stop t = rest_by t
 
-  pub part-on : f ≡ Nowhere → RestOf file n (k + 1)
+  pub part-on : f ≡ None → RestOf file n (k + 1)
   part-on t = rest_by t

@@ -16,8 +16,8 @@ returns-then-keygroups-gt99 c = program_many _ c.if-file-lt150.false c.wide-keyg
 pub returns-then-file-parts : goal.returns-then-file-parts
 returns-then-file-parts c = program_length _ c.if-file-lt150.false c.wide-keygroups.ensures.0 c.if-keygroups-lt1.false c.if-keygroups-gt99.false c.if-file-parts.true c.refused-then-file-parts.ensures
 
-pub returns-in-At : goal.returns-in-At
-returns-in-At c = program_answer _ c.if-file-lt150.false c.wide-keygroups.ensures.0 c.if-keygroups-lt1.false c.if-keygroups-gt99.false c.if-file-parts.false c.parts_fault-fault.ensures c.in-At.is c.refused-in-At.ensures
+pub returns-in-Some : goal.returns-in-Some
+returns-in-Some c = program_answer _ c.if-file-lt150.false c.wide-keygroups.ensures.0 c.if-keygroups-lt1.false c.if-keygroups-gt99.false c.if-file-parts.false c.parts_fault-fault.ensures c.in-Some.is c.refused-in-Some.ensures
 
-pub returns-in-Nowhere : goal.returns-in-Nowhere
-returns-in-Nowhere c = program_answer _ c.if-file-lt150.false c.wide-keygroups.ensures.0 c.if-keygroups-lt1.false c.if-keygroups-gt99.false c.if-file-parts.false c.parts_fault-fault.ensures c.in-Nowhere.is refl
+pub returns-in-None : goal.returns-in-None
+returns-in-None c = program_answer _ c.if-file-lt150.false c.wide-keygroups.ensures.0 c.if-keygroups-lt1.false c.if-keygroups-gt99.false c.if-file-parts.false c.parts_fault-fault.ensures c.in-None.is refl

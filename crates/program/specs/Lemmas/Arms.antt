@@ -1,18 +1,17 @@
 -- What each arm of the code shows of a program's parts and of the check's answer.
 -- By the tests that led there; the loop over parts by the law of its fold. Assumes nothing.
-use Rattle.std.specs.Prelude.{◌≡◌, List, ℕ, zero, suc, ◌+◌, ◌-◌, ◌*◌, ◌≤◌, ◌<◌, length}
+use Rattle.std.specs.Prelude.{◌≡◌, List, ℕ, zero, suc, ◌+◌, ◌-◌, ◌*◌, ◌≤◌, ◌<◌, length, None}
 use Rattle.std.proofs.Math.Path.{refl, sym}
 use Rattle.std.proofs.Common.{◌∙◌}
 use Rattle.std.proofs.Math.Bool.{true, false}
 use borrow.Author.Tests.{lt-ltb, le-ltb, eq-eqb, ne_eqb}
 use Rattle.laws.specs.Lemmas.Truth.{within_in, within_below, within_above}
 use Rattle.laws.specs.Lemmas.Scan.{over_end}
-use Rattle.laws.specs.declared.Lowest.{Lowest}
-use Rattle.laws.specs.declared.Lowest.TheVariants.{Nowhere}
 use Rattle.rows.specs.Rows.{or_else}
 use Rattle.headers.specs.declared.Table.TheVariants.{Keygroup}
-use Rattle.laws.specs.declared.Counted.{Counted}
 use Rattle.program.specs.Program.{table_of, keygroups_of, part_fault, parts_fault, counted, refused_at, answer_of, program_of}
+use Rattle.laws.specs.Scan.{Lowest}
+use Rattle.laws.specs.Refusals.{Counted}
 
 pub later_table : (k : ℕ) → (k ≡ 0 → ⊥) → Keygroup ≡ table_of k
 later_table zero h = absurd (h refl)
@@ -24,9 +23,9 @@ later_table (suc k) h = refl
 abbrev pub RestOf : List ℕ → ℕ → ℕ → Type 0
 RestOf file n k = parts_fault file k (n - k) ≡ parts_fault file 0 n
 
-pub parts_end : (file : List ℕ) (n k : ℕ) → RestOf file n k → n ≤ k → Nowhere ≡ parts_fault file 0 n
+pub parts_end : (file : List ℕ) (n k : ℕ) → RestOf file n k → n ≤ k → None ≡ parts_fault file 0 n
 unfolding parts_fault
-parts_end file n k v h = sym (over_end (λ i rest. or_else (part_fault file i) rest) Nowhere k n h) ∙ v
+parts_end file n k v h = sym (over_end (λ i rest. or_else (part_fault file i) rest) None k n h) ∙ v
 
 -- ---- the answer
 

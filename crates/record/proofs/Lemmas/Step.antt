@@ -1,14 +1,12 @@
 -- One call on an image that meets the disk rules: it meets them afterwards, and its files are the record's after the same call.
 -- By cases on the call and on the record's judgement. Assumes nothing.
-use Rattle.std.specs.Prelude.{◌≡◌, List, ℕ}
+use Rattle.std.specs.Prelude.{◌≡◌, List, ℕ, Ok, Err}
 use Rattle.std.proofs.Math.Path.{refl}
 use Rattle.std.proofs.Common.{sym, ap, ◌∙◌}
 use Rattle.layout.specs.declared.Layout.{Layout}
 use Rattle.layout.specs.Right.{LayoutRight}
 use Rattle.image.specs.Image.{files_in, DiskRules}
-use Rattle.record.specs.Record.{Shape, Files, Call, check, list, find, page, put, remove, salvage, judge_name, judge_put, step_files}
-use Rattle.record.specs.declared.Judged.{Judged}
-use Rattle.record.specs.declared.Judged.TheVariants.{Refuse, Grant}
+use Rattle.record.specs.Record.{Shape, Files, Call, check, list, find, page, put, remove, salvage, judge_name, judge_put, step_files, Judged}
 use Rattle.record.proofs.Lemmas.Update.{remove_rules, remove_files, put_rules, put_files}
 use Rattle.record.specs.Step.{image_after, Reading, reads_check, reads_list, reads_find, reads-page, reads_salvage}
 use Rattle.record.specs.Lemmas.Step.{reading_keeps, Step}
@@ -21,16 +19,16 @@ module _ (shape : Shape) (right : LayoutRight shape.layout) (img : List ℕ) (ru
 
   put_step : (name : List ℕ) (type : ℕ) (content : List ℕ) (j : Judged) → judge_put l (files_in l img) name type content ≡ j → Step shape img (put name type content)
   unfolding image_after step_files
-  put_step name type content (Refuse r) e = record { rules = rw e rules; files = λ t. rw e refl }
-  put_step name type content (Grant s) e = record {
+  put_step name type content (Err r) e = record { rules = rw e rules; files = λ t. rw e refl }
+  put_step name type content (Ok s) e = record {
     rules = rw e (put_rules l right img rules name type content s e);
     files = λ t. rw e (put_files l right img rules name type content s e t);
   }
 
   remove_step : (name : List ℕ) (type : ℕ) (j : Judged) → judge_name l (files_in l img) name type ≡ j → Step shape img (remove name type)
   unfolding image_after step_files
-  remove_step name type (Refuse r) e = record { rules = rw e rules; files = λ t. rw e refl }
-  remove_step name type (Grant s) e = record {
+  remove_step name type (Err r) e = record { rules = rw e rules; files = λ t. rw e refl }
+  remove_step name type (Ok s) e = record {
     rules = rw e (remove_rules l right img rules name type s e);
     files = λ t. rw e (remove_files l right img rules name type s e t);
   }

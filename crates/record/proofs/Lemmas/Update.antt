@@ -1,6 +1,6 @@
 -- A put or a remove that the record grants: the image that it leaves meets the disk rules, and its files are the record's.
 -- A granted name is in a used slot, a granted put has an empty slot, a name that is new within its type and enough free blocks; the rest is `view` and `image`. Assumes nothing.
-use Rattle.std.specs.Prelude.{◌≡◌, Bool, true, false, ℕ, ◌+◌, ◌-◌, ◌≤◌, ◌<◌, eqb}
+use Rattle.std.specs.Prelude.{◌≡◌, Bool, true, false, ℕ, ◌+◌, ◌-◌, ◌≤◌, ◌<◌, eqb, Ok}
 use Rattle.std.proofs.Math.Path.{refl, sym, ap}
 use Rattle.std.proofs.Common.{◌∙◌, true≢false, arith}
 use mathlib.Core.List.{List}
@@ -40,7 +40,6 @@ use Rattle.image.specs.Lemmas.Effect.{removed, remove_length, remove_identity, r
 use Rattle.image.specs.Lemmas.Entries.{identity_byte}
 use Rattle.image.specs.Lemmas.Kinds.{kind_kept}
 use Rattle.record.specs.Record.{named, kept_file, is_empty, replaced, slot_of, empty_slot, free, judge_name, judge_put}
-use Rattle.record.specs.declared.Judged.TheVariants.{Grant}
 use Rattle.record.proofs.Types.{named_exactly}
 use Rattle.record.specs.Lemmas.Granted.{Puts, granted_name}
 use Rattle.record.proofs.Lemmas.Granted.{granted_put}
@@ -77,7 +76,7 @@ files-replaced l v w s f h a b t = go (ℕ_discrete t s) (dec_lt t l.slots)
 module _ (l : Layout) (right : LayoutRight l) (img : List ℕ) (rules : DiskRules l img) where
   -- ---- remove
 
-  module _ (name : List ℕ) (type s : ℕ) (granted : judge_name l (files_in l img) name type ≡ Grant s) where
+  module _ (name : List ℕ) (type s : ℕ) (granted : judge_name l (files_in l img) name type ≡ Ok s) where
     pub remove_slot : Used l (view_of l (bytes img)) s
     unfolding slot_of
     remove_slot =
@@ -112,7 +111,7 @@ module _ (l : Layout) (right : LayoutRight l) (img : List ℕ) (rules : DiskRule
 
   -- ---- put
 
-  module _ (name : List ℕ) (type : ℕ) (content : List ℕ) (s : ℕ) (granted : judge_put l (files_in l img) name type content ≡ Grant s) where
+  module _ (name : List ℕ) (type : ℕ) (content : List ℕ) (s : ℕ) (granted : judge_put l (files_in l img) name type content ≡ Ok s) where
     abbrev ks : List ℕ
     ks = chosen l (map_at (bytes img)) (length content)
 

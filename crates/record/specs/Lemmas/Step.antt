@@ -1,14 +1,12 @@
 -- One call on an image that meets the disk rules: it meets them afterwards, and its files are the record's after the same call.
 -- By cases on the call and on the record's judgement. Assumes nothing.
-use Rattle.std.specs.Prelude.{◌≡◌, Bool, true, false, List, [], ℕ, ltb, length}
+use Rattle.std.specs.Prelude.{◌≡◌, Bool, true, false, List, [], ℕ, ltb, length, Ok, Err}
 use Rattle.std.proofs.Math.Path.{refl}
 use Rattle.std.proofs.Math.Option.{Option, none, some}
 use Rattle.layout.specs.declared.Layout.{Layout}
 use Rattle.view.specs.Disk.{File}
 use Rattle.image.specs.Image.{files_in, DiskRules}
-use Rattle.record.specs.Record.{Shape, Files, Call, check, list, find, page, put, remove, salvage, judge_name, file_at, finding, listing, paging, putting, removing, salvaging, step_files}
-use Rattle.record.specs.declared.Judged.{Judged}
-use Rattle.record.specs.declared.Judged.TheVariants.{Refuse, Grant}
+use Rattle.record.specs.Record.{Shape, Files, Call, check, list, find, page, put, remove, salvage, judge_name, file_at, finding, listing, paging, putting, removing, salvaging, step_files, Judged}
 use Rattle.record.specs.Step.{image_after, Reading, reads_check, reads_list, reads_find, reads-page, reads_salvage}
 
 -- ---- these calls have no output
@@ -19,23 +17,23 @@ module _ {S : Type 0} (state : S) where
   list_output (some f) = refl
 
   pub find_output : (j : Judged) → (finding state j).output ≡ []
-  find_output (Refuse r) = refl
-  find_output (Grant s) = refl
+  find_output (Err r) = refl
+  find_output (Ok s) = refl
 
   pub put_output : (next : ℕ → S) (j : Judged) → (putting state next j).output ≡ []
-  put_output next (Refuse r) = refl
-  put_output next (Grant s) = refl
+  put_output next (Err r) = refl
+  put_output next (Ok s) = refl
 
   pub remove_output : (next : ℕ → S) (j : Judged) → (removing state next j).output ≡ []
-  remove_output next (Refuse r) = refl
-  remove_output next (Grant s) = refl
+  remove_output next (Err r) = refl
+  remove_output next (Ok s) = refl
 
 -- ---- calls that leave an image as it is keep the record's files
 
 module _ (files : Files) where
   finding-keeps : (j : Judged) → (finding files j).state ≡ files
-  finding-keeps (Refuse r) = refl
-  finding-keeps (Grant s) = refl
+  finding-keeps (Err r) = refl
+  finding-keeps (Ok s) = refl
 
   listing-keeps : (f : Option File) → (listing files f).state ≡ files
   listing-keeps none = refl

@@ -1,6 +1,6 @@
 -- A put or a remove that the record grants: the image that it leaves meets the disk rules, and its files are the record's.
 -- A granted name is in a used slot, a granted put has an empty slot, a name that is new within its type and enough free blocks; the rest is `view` and `image`. Assumes nothing.
-use Rattle.std.specs.Prelude.{◌≡◌, Bool, true, false, not, ℕ, ◌+◌, ◌-◌, ◌≤◌, ◌<◌}
+use Rattle.std.specs.Prelude.{◌≡◌, Bool, true, false, not, ℕ, ◌+◌, ◌-◌, ◌≤◌, ◌<◌, Ok}
 use Rattle.std.proofs.Math.Path.{refl}
 use Rattle.std.proofs.Common.{arith}
 use mathlib.Core.List.{List}
@@ -21,7 +21,6 @@ use Rattle.view.specs.Disk.{View, used, file_of, files_of, takes}
 use Rattle.view.proofs.Lemmas.Counting.{free_blocks_is}
 use Rattle.image.specs.Image.{view_of, files_in, DiskRules, chosen}
 use Rattle.record.specs.Record.{is_empty, free, judge_put}
-use Rattle.record.specs.declared.Judged.TheVariants.{Grant}
 
 -- ---- slots and their files
 
@@ -48,7 +47,7 @@ module _ (l : Layout) (right : LayoutRight l) (img : List ℕ) (rules : DiskRule
 
   -- ---- put
 
-  module _ (name : List ℕ) (type : ℕ) (content : List ℕ) (s : ℕ) (granted : judge_put l (files_in l img) name type content ≡ Grant s) where
+  module _ (name : List ℕ) (type : ℕ) (content : List ℕ) (s : ℕ) (granted : judge_put l (files_in l img) name type content ≡ Ok s) where
     abbrev ks : List ℕ
     ks = chosen l (map_at (bytes img)) (length content)
 

@@ -1,40 +1,75 @@
--- What each arm of the code shows of `legal`, `breaks` and a run's or table's fault.
--- By the tests that led there; a table's loop by what the rows from row i on give. Assumes nothing.
-use Rattle.std.specs.Prelude.{◌≡◌, List, get_or, take, drop}
+-- What a search of a run's numbers shows of the run's fault, and a row in hand of its table's.
+-- By the first number that breaks the rule, and by what the rows from row i on give. Assumes nothing.
+use Rattle.std.specs.Prelude.{◌≡◌, Bool, true, false, List, get_or, drop, Option, Some, None, MatchOption, IsSomeAnd, is_some}
 use Rattle.std.proofs.Math.Path.{refl, sym, ap}
-use Rattle.std.proofs.Common.{◌∙◌}
-use Prim.Native.Nat.{ℕ, suc, ◌+◌, ◌-◌, ◌≤◌, ◌<◌}
+use Rattle.std.proofs.Common.{◌∙◌, true≢false, drop_of_length-le}
+use Prim.Native.Nat.{ℕ, zero, suc, ◌+◌, ◌≤◌, ◌<◌}
 use Rattle.std.proofs.Math.Numerals.{add-one}
 use native.Mathlib.Omega.{arith}
 use Rattle.std.proofs.Math.ListN.{length}
 use Rattle.std.proofs.Math.Seq.{drop-cons}
-use Rattle.laws.specs.declared.Lowest.{Lowest}
-use Rattle.laws.specs.declared.Lowest.TheVariants.{At, Nowhere}
 use Rattle.rows.specs.declared.Row.{Row}
-use Rattle.rows.specs.Rows.{row_fault, or_else, rows_fault}
-use Rattle.rows.specs.Lemmas.Arms.{no_row, RestOf}
+use Rattle.rows.specs.Rows.{breaks, place_of, run_fault, row_fault, or_else, rows_fault}
+use Rattle.rows.specs.Lemmas.Arms.{run_stop, run_clean}
+use Rattle.rows.specs.declared.Row.TheVariants.{Only}
+use Rattle.std.proofs.Math.Decide.{ℕ_discrete}
+use Rattle.laws.specs.Scan.{lowest, Lowest}
+use Rattle.laws.specs.Lemmas.Scan.{→nowhere}
+use Rattle.rows.specs.declared.Run.{Run}
 
--- ---- a table: the rows from `first` on, below `end`
+-- ---- a run: what a search of its numbers found, and the place of that
 
-module _ (header : List ℕ) (base : ℕ) (rows : List Row) (first end i : ℕ) where
-  rest_row : {row : Row} {f : Lowest} → i < end → end ≤ length rows → row ≡ get_or rows i no_row → f ≡ row_fault header base row
-      → rows_fault header base (take (end - i) (drop i rows)) ≡ or_else f (rows_fault header base (take (end - (i + 1)) (drop (i + 1) rows)))
+lowest_is : (f : ℕ → Bool) (i n k : ℕ) → i ≤ k → k < i + n → f k ≡ true → ((j : ℕ) → i ≤ j → j < k → f j ≡ false) → lowest f i n ≡ Some k
+unfolding lowest
+lowest_is f i zero k h l e below = absurd (omega arith)
+lowest_is f i (suc n) k h l e below = go (lowest_is f (suc i) n k) (ℕ_discrete i k)
+  where
+    go : (suc i ≤ k → k < suc i + n → f k ≡ true → ((j : ℕ) → suc i ≤ j → j < k → f j ≡ false) → lowest f (suc i) n ≡ Some k) → Dec (i ≡ k) → lowest f i (suc n) ≡ Some k
+    go ih (yes q) = rw (q, e) refl
+    go ih (no q) = rw (below i (omega arith) (omega arith)) (ih (omega arith) (omega arith) e (λ j a b. below j (omega arith) b))
+
+module _ (header : List ℕ) (base : ℕ) (run : Run) where
+  pub run_found : {count : ℕ} → count ≡ run.count → (found place : Option ℕ)
+      → MatchOption found ((j : ℕ) → 0 ≤ j → j < count → breaks header base run j ≡ false)
+      (λ i. (0 ≤ i) × (i < count) × (breaks header base run i ≡ true) × ((j : ℕ) → 0 ≤ j → j < i → breaks header base run j ≡ false))
+      → MatchOption found (place ≡ None) (λ i. IsSomeAnd place (λ p. p ≡ place_of base run i)) → place ≡ run_fault header base run
+  run_found {count} e None place h m =
+      m ∙ run_clean header base run e (sym (→nowhere (breaks header base run) 0 count (λ j a b. h j a (omega arith))))
+  run_found {count} e (Some i) None h m = elim m [ ]
+  run_found {count} e (Some i) (Some p) h m =
+      run_stop header base run e (sym (lowest_is (breaks header base run) 0 count i h.0 (omega (arith, h.1)) h.2 h.3)) m
+
+-- ---- a table: what the rows from row i on give is what all of them give
+
+-- what an array of rows has past its end
+abbrev pub no_row : Row
+no_row = Only 0 0
+
+abbrev pub RestOf : List ℕ → ℕ → List Row → ℕ → Type 0
+RestOf header base rows i = rows_fault header base (drop i rows) ≡ rows_fault header base rows
+
+module _ (header : List ℕ) (base : ℕ) (rows : List Row) (i : ℕ) where
+  rest_row : i < length rows → rows_fault header base (drop i rows) ≡ or_else (row_fault header base (get_or rows i no_row)) (rows_fault header base (drop (i + 1) rows))
   unfolding rows_fault
-  rest_row h l e k =
-      let s : end - i ≡ suc (end - (i + 1)) = omega arith in
-      let m : i < length rows = omega arith in
-      rw (s, drop-cons rows i no_row m, add-one i, k, e, rows_fault) refl
+  rest_row h = rw (drop-cons rows i no_row h, add-one i, rows_fault) refl
 
   -- the rest of the table is known once the row in hand is
-  rest_by : {row : Row} {f g : Lowest} → RestOf header base rows first end i → i < end → end ≤ length rows → row ≡ get_or rows i no_row
-      → f ≡ row_fault header base row → f ≡ g
-      → or_else g (rows_fault header base (take (end - (i + 1)) (drop (i + 1) rows))) ≡ rows_fault header base (take (end - first) (drop first rows))
-  rest_by v h l e k t = sym (ap (λ (x : Lowest). or_else x (rows_fault header base (take (end - (i + 1)) (drop (i + 1) rows)))) t) ∙ sym (rest_row h l e k) ∙ v
+  rest_by : {row : Row} {f g : Lowest} → RestOf header base rows i → i < length rows → row ≡ get_or rows i no_row → f ≡ row_fault header base row → f ≡ g
+      → or_else g (rows_fault header base (drop (i + 1) rows)) ≡ rows_fault header base rows
+  rest_by v h e k t =
+      let q = sym t ∙ k ∙ ap (row_fault header base) e in
+      ap (λ (x : Lowest). or_else x (rows_fault header base (drop (i + 1) rows))) q ∙ sym (rest_row h) ∙ v
 
-  pub rows_stop : {row : Row} {f : Lowest} {place : ℕ} → RestOf header base rows first end i → i < end → end ≤ length rows → row ≡ get_or rows i no_row
-      → f ≡ row_fault header base row → f ≡ At place → At place ≡ rows_fault header base (take (end - first) (drop first rows))
-  rows_stop v h l e k t = rest_by v h l e k t
+  pub rows_stop : {row : Row} (f : Lowest) → RestOf header base rows i → i < length rows → row ≡ get_or rows i no_row
+      → f ≡ row_fault header base row → is_some f ≡ true → f ≡ rows_fault header base rows
+  rows_stop (Some place) v h e k t = rest_by v h e k refl
+  rows_stop None v h e k t = absurd (true≢false (sym t))
 
-  pub rows_on : {row : Row} {f : Lowest} → RestOf header base rows first end i → i < end → end ≤ length rows → row ≡ get_or rows i no_row
-      → f ≡ row_fault header base row → f ≡ Nowhere → RestOf header base rows first end (i + 1)
-  rows_on v h l e k t = rest_by v h l e k t
+  pub rows_on : {row : Row} (f : Lowest) → RestOf header base rows i → i < length rows → row ≡ get_or rows i no_row
+      → f ≡ row_fault header base row → is_some f ≡ false → RestOf header base rows (i + 1)
+  rows_on (Some place) v h e k t = absurd (true≢false t)
+  rows_on None v h e k t = rest_by v h e k refl
+
+  pub rows_clean : RestOf header base rows i → length rows ≤ i → None ≡ rows_fault header base rows
+  unfolding rows_fault
+  rows_clean v h = rw (drop_of_length-le rows h) at v

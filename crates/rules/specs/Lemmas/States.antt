@@ -1,13 +1,11 @@
 -- What a call comes to on an image that meets the rules is the record's outcome with the image as the state.
 -- Answer and output are the same whatever the state is, files or an image. Assumes nothing.
-use Rattle.std.specs.Prelude.{◌≡◌, refl, Bool, true, false, List, ℕ, ltb, length}
+use Rattle.std.specs.Prelude.{◌≡◌, refl, Bool, true, false, List, ℕ, ltb, length, Ok, Err}
 use Rattle.std.proofs.Math.Option.{Option, none, some}
 use Rattle.layout.specs.declared.Layout.{Layout}
 use Rattle.view.specs.Disk.{File}
 use Rattle.image.specs.Image.{files_in, remove_image, put_image}
-use Rattle.record.specs.Record.{Shape, Files, list, find, page, put, remove, judge_name, judge_put, file_at, finding, listing, paging, putting, removing}
-use Rattle.record.specs.declared.Judged.{Judged}
-use Rattle.record.specs.declared.Judged.TheVariants.{Refuse, Grant}
+use Rattle.record.specs.Record.{Shape, Files, list, find, page, put, remove, judge_name, judge_put, file_at, finding, listing, paging, putting, removing, Judged}
 use Rattle.record.specs.Step.{after, step_image}
 use Rattle.rules.specs.Check.{came}
 
@@ -20,8 +18,8 @@ module _ (shape : Shape) (img : List ℕ) where
   listing-on (some f) = refl
 
   finding-on : (j : Judged) → came (finding (files_in l img) j).answer (finding (files_in l img) j).output img ≡ finding img j
-  finding-on (Refuse r) = refl
-  finding-on (Grant s) = refl
+  finding-on (Err r) = refl
+  finding-on (Ok s) = refl
 
   paging-on : (w : Option File) (offset : ℕ) (out : List ℕ) → came (paging (files_in l img) w offset out).answer (paging (files_in l img) w offset out).output img ≡ paging img w offset out
   paging-on none offset out = refl
@@ -42,13 +40,13 @@ module _ (shape : Shape) (img : List ℕ) where
 
   putting-on : (next : ℕ → Files) (change : ℕ → List ℕ) (j : Judged)
       → came (putting (files_in l img) next j).answer (putting (files_in l img) next j).output (after img change j) ≡ putting img change j
-  putting-on next change (Refuse r) = refl
-  putting-on next change (Grant s) = refl
+  putting-on next change (Err r) = refl
+  putting-on next change (Ok s) = refl
 
   removing-on : (next : ℕ → Files) (change : ℕ → List ℕ) (j : Judged)
       → came (removing (files_in l img) next j).answer (removing (files_in l img) next j).output (after img change j) ≡ removing img change j
-  removing-on next change (Refuse r) = refl
-  removing-on next change (Grant s) = refl
+  removing-on next change (Err r) = refl
+  removing-on next change (Ok s) = refl
 
   pub step_put : (name : List ℕ) (type : ℕ) (content : List ℕ)
       → step_image shape img (put name type content) ≡ putting img (λ s. put_image l img s name type content) (judge_put l (files_in l img) name type content)

@@ -1,8 +1,6 @@
 -- `samples::pack` meets its contract: each refusal, and the file where there is none, is what `pack_of` says.
 -- Each test is a step of it; header and data are stored one after the other. Assumes nothing.
 use Rattle.std.proofs.Common.{◌≡◌, List, ℕ, ℤ, length, sym, ap, ◌∙◌, arith}
-use Rattle.laws.specs.declared.Lowest.{Lowest}
-use Rattle.laws.specs.declared.Lowest.TheVariants.{Nowhere}
 use Rattle.laws.specs.Splice.{part}
 use Rattle.laws.specs.Lemmas.Splice.{length-splice}
 use Rattle.samples.specs.declared.Sampler.{Sampler}
@@ -10,19 +8,21 @@ use Rattle.samples.specs.Samples.{header_size, count_in, data_size, header_fault
 use Rattle.samples.specs.Lemmas.Steps.{pack_refused, pack_outside, Ready, ready_header, ready_rest, pack_short, pack_done}
 use Rattle.samples.specs.Rules.{header_accepted}
 use Rattle.samples.proofs.pack.Goals as goal
+use Rattle.laws.specs.Scan.{Lowest}
+use Rattle.std.specs.Prelude.{None}
 
 -- what is known once all sizes are in hand
-ready : (sampler : Sampler) (header : List ℕ) (words : List ℤ) {f g : Lowest} {size count rest : ℕ} → f ≡ header_fault sampler header (length words) → f ≡ Nowhere
-    → g ≡ range_fault sampler words → g ≡ Nowhere → size ≡ header_size sampler → count ≡ count_in sampler header → rest ≡ data_size sampler count
+ready : (sampler : Sampler) (header : List ℕ) (words : List ℤ) {f g : Lowest} {size count rest : ℕ} → f ≡ header_fault sampler header (length words) → f ≡ None
+    → g ≡ range_fault sampler words → g ≡ None → size ≡ header_size sampler → count ≡ count_in sampler header → rest ≡ data_size sampler count
     → Ready sampler header words size count rest
 ready sampler header words e h r k s n d = record { fault = sym e ∙ h; range = sym r ∙ k; size_is = s; count_is = n; rest_is = d }
 
-pub returns-in-At : goal.returns-in-At
-returns-in-At c = pack_refused c.args.sampler c.args.header.now c.args.words.now c.args.out.now c.header_fault-fault.ensures c.in-At.is
+pub returns-in-Some : goal.returns-in-Some
+returns-in-Some c = pack_refused c.args.sampler c.args.header.now c.args.words.now c.args.out.now c.header_fault-fault.ensures c.in-Some.is
 
-pub returns-in-At-outside : goal.returns-in-At-outside
-returns-in-At-outside c =
-    pack_outside c.args.sampler c.args.header.now c.args.words.now c.args.out.now c.header_fault-fault.ensures c.in_default.is c.range_fault-outside.ensures c.in-At-outside.is
+pub returns-in-Some-outside : goal.returns-in-Some-outside
+returns-in-Some-outside c =
+    pack_outside c.args.sampler c.args.header.now c.args.words.now c.args.out.now c.header_fault-fault.ensures c.in_default.is c.range_fault-outside.ensures c.in-Some-outside.is
 
 pub count_in-requires : goal.count_in-requires
 count_in-requires c = ((header_accepted _ _ _).0 (sym c.header_fault-fault.ensures ∙ c.in_default.is)).0.size

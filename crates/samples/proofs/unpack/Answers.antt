@@ -1,19 +1,19 @@
 -- `samples::unpack` meets its contract: each refusal, and the words where there is none, is what `unpack_of` says.
 -- Each test is a step of it. Assumes nothing.
 use Rattle.std.proofs.Common.{◌≡◌, List, ℕ, sym, ◌∙◌}
-use Rattle.laws.specs.declared.Lowest.{Lowest}
-use Rattle.laws.specs.declared.Lowest.TheVariants.{Nowhere}
 use Rattle.samples.specs.declared.Sampler.{Sampler}
 use Rattle.samples.specs.Samples.{header_size, file_fault}
 use Rattle.samples.specs.Lemmas.Steps.{unpack_refused, Opened, opened_long, unpack_room, unpack_short, unpack_done}
 use Rattle.samples.proofs.unpack.Goals as goal
+use Rattle.laws.specs.Scan.{Lowest}
+use Rattle.std.specs.Prelude.{None}
 
 -- what is known once the header's size is in hand
-opened : (sampler : Sampler) (file : List ℕ) {f : Lowest} {size : ℕ} → f ≡ file_fault sampler file → f ≡ Nowhere → size ≡ header_size sampler → Opened sampler file size
+opened : (sampler : Sampler) (file : List ℕ) {f : Lowest} {size : ℕ} → f ≡ file_fault sampler file → f ≡ None → size ≡ header_size sampler → Opened sampler file size
 opened sampler file e h s = record { fault = sym e ∙ h; size_is = s }
 
-pub returns-in-At : goal.returns-in-At
-returns-in-At c = unpack_refused c.args.sampler c.args.file.now c.args.words.now c.file_fault-fault.ensures c.in-At.is
+pub returns-in-Some : goal.returns-in-Some
+returns-in-Some c = unpack_refused c.args.sampler c.args.file.now c.args.words.now c.file_fault-fault.ensures c.in-Some.is
 
 pub slice_bounds-count_in-end : goal.slice_bounds-count_in-end
 slice_bounds-count_in-end c =

@@ -1,6 +1,6 @@
 -- What the code finds, one test or call after another, is what the definitions of the faults and of the calls say.
 -- Each step is a rewriting by what the code has in hand. Assumes nothing.
-use Rattle.std.specs.Prelude.{◌≡◌, Bool, true, false, not, List, ◌++◌, ℕ, ◌+◌, ◌-◌, ◌≤◌, ◌<◌, eqb, ℤ, take, drop}
+use Rattle.std.specs.Prelude.{◌≡◌, Bool, true, false, not, List, ◌++◌, ℕ, ◌+◌, ◌-◌, ◌≤◌, ◌<◌, eqb, ℤ, take, drop, Ok, Some, Err, None}
 use Rattle.std.proofs.Math.Path.{refl, ap}
 use Rattle.std.proofs.Common.{sym, ◌∙◌, arith, length-drop, take_all, length-take-le, lt-ltb, le-ltb, eq-eqb, ne_eqb}
 use Rattle.std.proofs.Math.Bool.{not-not}
@@ -9,18 +9,15 @@ use Rattle.std.proofs.Math.ListN.{length}
 use Rattle.std.proofs.Math.Seq.{sets}
 use Rattle.laws.specs.Truth.{both}
 use Rattle.laws.specs.Refusals.{refusal_at, Filled, filled, unless}
-use Rattle.laws.specs.Scan.{all}
+use Rattle.laws.specs.Scan.{all, Lowest}
 use Rattle.laws.specs.Lemmas.Scan.{all_end, all_stop, all-on, all→, →nowhere}
 use Rattle.laws.specs.Splice.{splice, part}
 use Rattle.laws.specs.Lemmas.Splice.{splice-append}
 use Rattle.laws.specs.Reader.{bytes}
-use Rattle.laws.specs.declared.Lowest.{Lowest}
-use Rattle.laws.specs.declared.Lowest.TheVariants.{At, Nowhere}
 use Rattle.blocks.specs.Numbers.{number}
 use Rattle.rows.specs.Rows.{rows_fault}
 use Rattle.headers.specs.Tables.{rows_of}
 use Rattle.headers.specs.declared.Table.{Table}
-use Rattle.laws.specs.declared.Counted.TheVariants.{Done, Refused}
 use Rattle.samples.specs.declared.Sampler.{Sampler}
 use Rattle.samples.specs.declared.Sampler.TheVariants.{S900, S1000}
 use Rattle.samples.specs.Samples.{header_size, count_offset, table_of, data_size, is_whole, count_in, file_size, packed, unpacked, header_of, words_of, head_fault, file_fault, header_fault, is_short, is_outside, range_fault, room_fault, unpack_of, pack_of}
@@ -44,12 +41,12 @@ module _ (sampler : Sampler) (header : List ℕ) {right : Bool} where
   unfolding head_fault
   head_right e p q = rw (e, q, p, head_fault) refl
 
-  pub head_wrong : {at : ℕ} → right ≡ false → at ≡ count_offset sampler → At at ≡ head_fault sampler header right
+  pub head_wrong : {at : ℕ} → right ≡ false → at ≡ count_offset sampler → Some at ≡ head_fault sampler header right
   unfolding head_fault
   head_wrong e p = rw (e, p, head_fault) refl
 
 module _ (sampler : Sampler) (file : List ℕ) {size : ℕ} (e : size ≡ header_size sampler) where
-  pub file_short : length file < size → At 0 ≡ file_fault sampler file
+  pub file_short : length file < size → Some 0 ≡ file_fault sampler file
   unfolding file_fault
   file_short h = rw (lt-ltb (length file) (header_size sampler) (rw e at h), file_fault) refl
 
@@ -67,7 +64,7 @@ module _ (sampler : Sampler) (file : List ℕ) {size : ℕ} (e : size ≡ header
       rw (le-ltb (length file) (header_size sampler) k, file_fault, z, r, q, p, header_part, e) refl
 
 module _ (sampler : Sampler) (header : List ℕ) (given : ℕ) {size : ℕ} (e : size ≡ header_size sampler) where
-  pub header_size_is : (length header ≡ size → ⊥) → At 0 ≡ header_fault sampler header given
+  pub header_size_is : (length header ≡ size → ⊥) → Some 0 ≡ header_fault sampler header given
   unfolding header_fault
   header_size_is h = let k : length header ≡ header_size sampler → ⊥ = rw e at h in rw (ne_eqb (length header) (header_size sampler) k, header_fault) refl
 
@@ -104,22 +101,22 @@ module _ (f : ℕ → Bool) (n i : ℕ) (short : Bool) (p : Passed f n i short) 
   passed_all h = sym (both_yes short) ∙ ap (both short) (sym (all_end f i n h)) ∙ p.1
 
 module _ {sampler : Sampler} (words : List ℤ) (e : sampler ≡ S900) {short : Bool} (p : short ≡ all (is_short words) 0 (length words)) where
-  pub range_short : short ≡ true → Nowhere ≡ range_fault sampler words
+  pub range_short : short ≡ true → None ≡ range_fault sampler words
   range_short t = rw e (sym (→nowhere (is_outside words) 0 (length words) (λ k h l. ap not (all→ (is_short words) 0 (length words) (sym p ∙ t) k h l))))
 
 -- ---- refusals in order
 
 module _ {A : Type 0} (no : ℕ) (output : List A) (rest : Filled A) {f : Lowest} where
-  stopped : {place : ℕ} → f ≡ At place → filled (Refused (refusal_at no place)) output ≡ unless no f output rest
+  stopped : {place : ℕ} → f ≡ Some place → filled (Err (refusal_at no place)) output ≡ unless no f output rest
   stopped e = rw e refl
 
-  passed : f ≡ Nowhere → rest ≡ unless no f output rest
+  passed : f ≡ None → rest ≡ unless no f output rest
   passed e = rw e refl
 
-short_room : (room due : ℕ) → room < due → room_fault room due ≡ At 0
+short_room : (room due : ℕ) → room < due → room_fault room due ≡ Some 0
 short_room room due h = rw (lt-ltb room due h) refl
 
-pub enough_room : (room due : ℕ) → due ≤ room → room_fault room due ≡ Nowhere
+pub enough_room : (room due : ℕ) → due ≤ room → room_fault room due ≡ None
 enough_room room due h = rw (le-ltb room due h) refl
 
 -- a part that goes to the end
@@ -129,13 +126,13 @@ rest_all l at = take_all (length l - at) (drop at l) (omega (arith, length-drop 
 -- ---- unpacking
 
 module _ (sampler : Sampler) (file : List ℕ) (words : List ℤ) where
-  pub unpack_refused : {f : Lowest} {place : ℕ} → f ≡ file_fault sampler file → f ≡ At place → filled (Refused (refusal_at 18 place)) words ≡ unpack_of sampler file words
+  pub unpack_refused : {f : Lowest} {place : ℕ} → f ≡ file_fault sampler file → f ≡ Some place → filled (Err (refusal_at 18 place)) words ≡ unpack_of sampler file words
   unfolding unpack_of
   unpack_refused e h = stopped 18 words _ (sym e ∙ h)
 
 -- an accepted file, and its header's size as the code has it
 pub record Opened (sampler : Sampler) (file : List ℕ) (size : ℕ) : Type 0 where
-  pub fault : file_fault sampler file ≡ Nowhere
+  pub fault : file_fault sampler file ≡ None
   pub size_is : size ≡ header_size sampler
 
 -- the header is there
@@ -152,12 +149,12 @@ module _ (sampler : Sampler) (file : List ℕ) (words : List ℤ) {size count : 
       let e : length file ≡ size + data_size sampler count = rw (count_is, o.size_is) ((file-accepted sampler file).0 o.fault).long in
       rw (rest_all file size, length-drop size file) (omega arith)
 
-  pub unpack_short : length words < count → filled (Refused (refusal_at 21 0)) words ≡ unpack_of sampler file words
+  pub unpack_short : length words < count → filled (Err (refusal_at 21 0)) words ≡ unpack_of sampler file words
   unfolding unpack_of
   unpack_short k = stopped 21 words _ (short_room (length words) _ (rw count_is at k)) ∙ passed 18 words _ o.fault
 
   pub unpack_done : {after : List ℤ} → count ≤ length words → after ≡ sets words 0 (unpacked sampler (bytes (take (length file - size) (drop size file))) count)
-      → filled (Done count) after ≡ unpack_of sampler file words
+      → filled (Ok count) after ≡ unpack_of sampler file words
   unfolding unpack_of
   unpack_done {after} k a =
       let there : after ≡ sets words 0 (words_of sampler file) = a ∙ rw (rest_all file size, count_is, o.size_is) refl in
@@ -166,18 +163,18 @@ module _ (sampler : Sampler) (file : List ℕ) (words : List ℤ) {size count : 
 -- ---- packing
 
 module _ (sampler : Sampler) (header : List ℕ) (words : List ℤ) (out : List ℕ) {f : Lowest} (e : f ≡ header_fault sampler header (length words)) where
-  pub pack_refused : {place : ℕ} → f ≡ At place → filled (Refused (refusal_at 18 place)) out ≡ pack_of sampler header words out
+  pub pack_refused : {place : ℕ} → f ≡ Some place → filled (Err (refusal_at 18 place)) out ≡ pack_of sampler header words out
   unfolding pack_of
   pack_refused h = stopped 18 out _ (sym e ∙ h)
 
-  pub pack_outside : {g : Lowest} {place : ℕ} → f ≡ Nowhere → g ≡ range_fault sampler words → g ≡ At place → filled (Refused (refusal_at 19 place)) out ≡ pack_of sampler header words out
+  pub pack_outside : {g : Lowest} {place : ℕ} → f ≡ None → g ≡ range_fault sampler words → g ≡ Some place → filled (Err (refusal_at 19 place)) out ≡ pack_of sampler header words out
   unfolding pack_of
   pack_outside h r k = stopped 19 out _ (sym r ∙ k) ∙ passed 18 out _ (sym e ∙ h)
 
 -- an accepted header and words, and the sizes as the code has them
 pub record Ready (sampler : Sampler) (header : List ℕ) (words : List ℤ) (size count rest : ℕ) : Type 0 where
-  pub fault : header_fault sampler header (length words) ≡ Nowhere
-  pub range : range_fault sampler words ≡ Nowhere
+  pub fault : header_fault sampler header (length words) ≡ None
+  pub range : range_fault sampler words ≡ None
   pub size_is : size ≡ header_size sampler
   pub count_is : count ≡ count_in sampler header
   pub rest_is : rest ≡ data_size sampler count
@@ -195,12 +192,12 @@ module _ (sampler : Sampler) (header : List ℕ) (words : List ℤ) (out : List 
   due : size + rest ≡ file_size sampler (length words)
   due = rw (r.size_is, ready_rest) refl
 
-  pub pack_short : length out < size + rest → filled (Refused (refusal_at 21 0)) out ≡ pack_of sampler header words out
+  pub pack_short : length out < size + rest → filled (Err (refusal_at 21 0)) out ≡ pack_of sampler header words out
   unfolding pack_of
   pack_short h = stopped 21 out _ (short_room (length out) _ (rw due at h)) ∙ passed 19 out _ r.range ∙ passed 18 out _ r.fault
 
   pub pack_done : {mid end : List ℕ} → size + rest ≤ length out → mid ≡ splice out 0 (part header 0 size) → end ≡ splice mid size (packed sampler words)
-      → filled (Done (size + rest)) end ≡ pack_of sampler header words out
+      → filled (Ok (size + rest)) end ≡ pack_of sampler header words out
   unfolding pack_of part
   pack_done {mid} {end} h a b =
       let first : mid ≡ splice out 0 header = a ∙ ap (splice out 0) (take_all size header (omega (arith, ready_header))) in

@@ -6,4 +6,4 @@ use Rattle.session.specs.Lemmas.Entries.{nameless}
 use Rattle.session.proofs.refused_reply.Goals as goal
 
 pub returns : goal.returns
-returns c = nameless (refused_by c.args.refusal) refl
+returns c = rw (c.number.ensures, c.place.ensures) (nameless (refused_by c.args.refusal) refl)

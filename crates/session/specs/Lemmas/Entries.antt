@@ -10,8 +10,7 @@ use Rattle.blocks.specs.Numbers.{Number, digits}
 use Rattle.laws.specs.Lemmas.Padded.{padded_nil}
 use Rattle.record.specs.Record.{Call, list, find, page, put, remove, Answer, Outcome}
 use Rattle.rules.specs.Check.{call_of}
-use Rattle.calls.specs.declared.Listed.{Listed}
-use Rattle.calls.specs.Answers.{listed_of, Lists}
+use Rattle.calls.specs.Answers.{listed_of, Lists, Listed, name_in}
 use Rattle.session.specs.declared.Reply.{Reply}
 use Rattle.session.specs.Script.{fits, put_entry, named_entry, entry_call, flag, reply_with, reply_of, reply_bytes, shown_by, after_entry, Entered, entered_by, after_run, run_from}
 
@@ -24,8 +23,8 @@ fits_end size at n h =
     omega arith
 
 -- a listing's reply, with the 12 bytes that list promises
-pub list_reply : (img : List ℕ) (o : Outcome (List ℕ)) (l : Listed) → Lists img o l → reply_with (listed_of l) l.name ≡ reply_of o.answer
-list_reply img o l e = ap (λ (x : Outcome (List ℕ)). reply_with x.answer l.name) e.answer ∙ ap (reply_with o.answer) e.name
+pub list_reply : (img : List ℕ) (o : Outcome (List ℕ)) (l : Listed) → Lists img o l → reply_with (listed_of l) (name_in l) ≡ reply_of o.answer
+list_reply img o l e = ap (λ (x : Outcome (List ℕ)). reply_with x.answer (name_in l)) e.answer ∙ ap (reply_with o.answer) e.name
 
 -- a reply without a name
 pub nameless : (a : Answer) → a.name ≡ [] → reply_with a (replicate 12 0) ≡ reply_of a

@@ -4,8 +4,8 @@ use Rattle.std.proofs.Common.{sym, ap}
 use Rattle.skilletjay.specs.Results.{counted_result}
 use Rattle.skilletjay.proofs.counted_result.Goals as goal
 
-pub returns-in-Done : goal.returns-in-Done
-returns-in-Done c = ap counted_result (sym c.in-Done.is)
+pub returns-in-Ok : goal.returns-in-Ok
+returns-in-Ok c = ap counted_result (sym c.in-Ok.is)
 
-pub returns-in-Refused : goal.returns-in-Refused
-returns-in-Refused c = ap counted_result (sym c.in-Refused.is)
+pub returns-in-Err : goal.returns-in-Err
+returns-in-Err c = ap counted_result (sym c.in-Err.is)

@@ -6,12 +6,12 @@ use Rattle.calls.specs.declared.Entry.{Entry}
 use Rattle.skilletjay.specs.Results.{listed_with}
 use Rattle.skilletjay.proofs.listed_result.Goals as goal
 
-pub returns-in-File : goal.returns-in-File
-returns-in-File c =
+pub returns-in-Ok : goal.returns-in-Ok
+returns-in-Ok c =
     let name = c.args.listed.name in
-    ap (λ (x : Entry). listed_with (entry_of x name) name) (sym c.in-File.is)
+    ap (λ (x : Entry). listed_with (entry_of x name) name) (sym c.in-Ok.is)
 
-pub returns-in-Refused : goal.returns-in-Refused
-returns-in-Refused c =
+pub returns-in-Err : goal.returns-in-Err
+returns-in-Err c =
     let name = c.args.listed.name in
-    ap (λ (x : Entry). listed_with (entry_of x name) name) (sym c.in-Refused.is)
+    ap (λ (x : Entry). listed_with (entry_of x name) name) (sym c.in-Err.is)

@@ -1,8 +1,7 @@
 -- `skilletjay::sj_find` meets its contract: the result is that of find's answer.
 -- What find ensures. Assumes nothing.
 use Rattle.std.proofs.Common.{◌≡◌, ◌∙◌, ap, refl, List, [], ℕ}
-use Rattle.calls.specs.Answers.{find_call, found_of}
-use Rattle.calls.specs.declared.Found.{Found}
+use Rattle.calls.specs.Answers.{find_call, found_of, Found}
 use Rattle.record.specs.Record.{Outcome, find}
 use Rattle.rules.specs.Check.{came, call_of}
 use Rattle.skilletjay.specs.Results.{found_result}

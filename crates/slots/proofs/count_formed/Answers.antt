@@ -7,8 +7,7 @@ use Rattle.laws.specs.Lemmas.Scan.{count_end, count_stop, count-on}
 use Rattle.laws.specs.Lemmas.Search.{searched_none}
 use Rattle.laws.proofs.Lemmas.Search.{searched_found, searched_more, searched_all}
 use Rattle.laws.specs.Reader.{bytes}
-use Rattle.laws.specs.Scan.{count}
-use Rattle.laws.specs.declared.Lowest.{Lowest}
+use Rattle.laws.specs.Scan.{count, Lowest}
 use Rattle.rules.specs.Check.{used_count}
 use Rattle.slots.specs.Forms.{or_used}
 use Rattle.slots.proofs.count_formed.Goals as goal

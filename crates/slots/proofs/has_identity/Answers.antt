@@ -13,14 +13,14 @@ loop-slot-init c =
     let z : c.args.layout.slots - 0 ≡ c.args.layout.slots = omega arith in
     (omega arith, rw z refl)
 
-pub returns-then-number2-identity : goal.returns-then-number2-identity
+pub returns-then-number-identity : goal.returns-then-number-identity
 unfolding has_identity
-returns-then-number2-identity c =
+returns-then-number-identity c =
     let k = c.loop-slot in
     let a = c.args in
     let l = a.layout in
     let b = bytes a.head.now in
-    let no = ne_eqb (number 2 b (l.directory + 24 * k.slot + 22)) l.identity (λ e. c.if-number2-identity.true (c.number2.ensures.value ∙ e)) in
+    let no = ne_eqb (number 2 b (l.directory + 24 * k.slot + 22)) l.identity (λ e. c.if-number-identity.true (c.number.ensures.value ∙ e)) in
     sym (all_stop (test b l.directory l.identity) k.slot l.slots (omega arith) no) ∙ k.invariant.1
 
 pub loop-slot-preserved : goal.loop-slot-preserved
@@ -29,7 +29,7 @@ loop-slot-preserved c =
     let a = c.args in
     let l = a.layout in
     let b = bytes a.head.now in
-    let yes = eq-eqb (number 2 b (l.directory + 24 * k.slot + 22)) l.identity (sym c.number2.ensures.value ∙ c.if-number2-identity.false) in
+    let yes = eq-eqb (number 2 b (l.directory + 24 * k.slot + 22)) l.identity (sym c.number.ensures.value ∙ c.if-number-identity.false) in
     (omega arith, sym (all-on (test b l.directory l.identity) k.slot l.slots (omega arith) yes) ∙ k.invariant.1)
 
 pub returns : goal.returns

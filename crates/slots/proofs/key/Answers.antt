@@ -8,8 +8,8 @@ use Rattle.slots.proofs.key.Goals as goal
 pub returns : goal.returns
 returns c =
     let b = bytes c.args.head.now in
-    let low = c.number4.ensures in
-    let high = c.number4-2.ensures in
+    let low = c.number.ensures in
+    let high = c.number-2.ensures in
     record {
       value = omega (arith, number_split 4 4 b c.args.at, low.value, high.value);
       small = λ k. omega (arith, c.shared_slice_known-1.given k);

@@ -5,4 +5,4 @@ use Rattle.slots.proofs.size_of.Goals as goal
 
 pub returns : goal.returns
 unfolding entry_at
-returns c = c.number3.ensures.value
+returns c = c.number.ensures.value

@@ -5,4 +5,4 @@ use Rattle.slots.proofs.start_of.Goals as goal
 
 pub returns : goal.returns
 unfolding entry_at
-returns c = c.number2.ensures.value
+returns c = c.number.ensures.value

@@ -1,6 +1,6 @@
 -- The rules read only the entries of the slots and the map values of the blocks: disks that agree on these are ruled alike.
 -- Search by search; chains agree once the search for broken ones found nothing. Assumes nothing.
-use Rattle.std.specs.Prelude.{◌≡◌, Bool}
+use Rattle.std.specs.Prelude.{◌≡◌, Bool, Ok, Some, None}
 use Rattle.std.proofs.Math.Path.{refl, ap, ap₂}
 use Rattle.std.proofs.Math.Bool.{true, false, not}
 use mathlib.Core.List.{List, [], ◌++◌}
@@ -9,10 +9,8 @@ use Rattle.std.proofs.Common.{arith}
 use Rattle.std.proofs.lemmas.Bool.{not-false}
 use Rattle.laws.specs.Truth.{pick, both}
 use Rattle.laws.specs.Lemmas.Truth.{both_false}
-use Rattle.laws.specs.Scan.{lowest}
+use Rattle.laws.specs.Scan.{lowest, Lowest}
 use Rattle.laws.specs.Lemmas.Scan.{nowhere→, at→, lowest_cong, any_cong}
-use Rattle.laws.specs.declared.Lowest.{Lowest}
-use Rattle.laws.specs.declared.Lowest.TheVariants.{At, Nowhere}
 use Rattle.laws.specs.Lists.{meets}
 use Rattle.layout.specs.declared.Layout.{Layout}
 use Rattle.layout.specs.Right.{LayoutRight}
@@ -21,14 +19,12 @@ use Rattle.map.specs.Map.{Walk, is_whole, fault_of}
 use Rattle.map.specs.Lemmas.Chains.{chain_cong, chain_data}
 use Rattle.map.specs.Lemmas.Walks.{walk_cong, whole_is}
 use Rattle.map.proofs.Lemmas.Walks.{walk_chained}
-use Rattle.view.specs.declared.Ruled.{Ruled}
-use Rattle.view.specs.declared.Ruled.TheVariants.{Pass}
 use Rattle.view.specs.Disk.{View, used, entry_chain, chain_of, owned}
-use Rattle.view.specs.Rules.{or_fail, bad_system, malformed, has_name_of, repeated, walk_of, broken, sharing, stray, rules}
+use Rattle.view.specs.Rules.{or_fail, bad_system, malformed, has_name_of, repeated, walk_of, broken, sharing, stray, rules, Ruled}
 
-or_fail_cong : (f g : ℕ → ℕ) (a b : Lowest) (x y : Ruled) → a ≡ b → ((k : ℕ) → b ≡ At k → f k ≡ g k) → (b ≡ Nowhere → x ≡ y) → or_fail f a x ≡ or_fail g b y
-or_fail_cong f g a (At k) x y e h n = rw (e, h k refl) refl
-or_fail_cong f g a Nowhere x y e h n = rw e (n refl)
+or_fail_cong : (f g : ℕ → ℕ) (a b : Lowest) (x y : Ruled) → a ≡ b → ((k : ℕ) → b ≡ Some k → f k ≡ g k) → (b ≡ None → x ≡ y) → or_fail f a x ≡ or_fail g b y
+or_fail_cong f g a (Some k) x y e h n = rw (e, h k refl) refl
+or_fail_cong f g a None x y e h n = rw e (n refl)
 
 module _ (l : Layout) (right : LayoutRight l) (v w : View) (maps : (k : ℕ) → k < l.blocks → w.map k ≡ v.map k) (entries : (s : ℕ) → s < l.slots → w.entry s ≡ v.entry s) where
   same_system : lowest (bad_system l w) 0 l.system ≡ lowest (bad_system l v) 0 l.system
@@ -57,7 +53,7 @@ module _ (l : Layout) (right : LayoutRight l) (v w : View) (maps : (k : ℕ) →
       lowest_cong (broken l w) (broken l v) 0 l.slots
       (λ s p q. ap₂ both (ap used (entries s (omega arith))) (ap (λ (x : Walk). not (is_whole x)) (same-walk s (omega arith))))
 
-  module _ (clean : lowest (broken l v) 0 l.slots ≡ Nowhere) where
+  module _ (clean : lowest (broken l v) 0 l.slots ≡ None) where
     same-entry-chain : (s : ℕ) → s < l.slots → used (v.entry s) ≡ true → entry_chain w.map (w.entry s) ≡ entry_chain v.map (v.entry s)
     unfolding entry_chain broken walk_of
     same-entry-chain s h u =
@@ -100,4 +96,4 @@ module _ (l : Layout) (right : LayoutRight l) (v w : View) (maps : (k : ℕ) →
       or_fail_cong (λ s. fault_of (walk_of l w s)) (λ s. fault_of (walk_of l v s)) (lowest (broken l w) 0 l.slots) (lowest (broken l v) 0 l.slots) _ _ same-broken
       (λ s e. let r = at→ (broken l v) 0 l.slots s e in ap fault_of (same-walk s (omega (arith, r.1)))) (λ clean.
       or_fail_cong (λ k. 8) (λ k. 8) (lowest (sharing l w) 0 l.slots) (lowest (sharing l v) 0 l.slots) _ _ (same-sharing clean) (λ k e. refl) (λ e.
-      or_fail_cong (λ k. 9) (λ k. 9) (lowest (stray l w) l.first (l.blocks - l.first)) (lowest (stray l v) l.first (l.blocks - l.first)) Pass Pass (same-stray clean) (λ k e. refl) (λ e. refl))))))
+      or_fail_cong (λ k. 9) (λ k. 9) (lowest (stray l w) l.first (l.blocks - l.first)) (lowest (stray l v) l.first (l.blocks - l.first)) (Ok tt) (Ok tt) (same-stray clean) (λ k e. refl) (λ e. refl))))))

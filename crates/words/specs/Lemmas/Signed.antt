@@ -1,8 +1,10 @@
 -- The code's arithmetic on words of 16 bits: a word plus 65,536 has the word's bits, and a number less half of its range is a word.
 -- By cases on the sign, each a fact on numbers. Assumes nothing.
 use Rattle.std.specs.Prelude.{◌≡◌, refl, Bool, true, false, ℕ, zero, suc, ◌+◌, ◌-◌, ◌*◌, ◌/◌, ◌%◌, ◌≤◌, ◌<◌, ltb, ℤ, pos, negsuc, ◌+ℤ◌, ◌-ℤ◌}
-use Rattle.std.proofs.Common.{sym, ◌∙◌, arith, SFits, to_z, of_z, to_z-of_z, lt-ltb, le-ltb, ltb-true, ltb-false}
+use Rattle.std.proofs.Common.{sym, ap, ◌∙◌, arith, SFits, to_z, of_z, to_z-of_z, lt-ltb, le-ltb, ltb-true, ltb-false}
 use Rattle.std.proofs.Math.IntN.{sub_ℕ}
+use Rattle.std.proofs.Math.Nat.{div-add-mod, div-lt_iff_lt-mul}
+use Rattle.std.proofs.lemmas.Nat.{mod-mul-add}
 use Rattle.std.specs.Int.{w16, w32}
 use Rattle.std.proofs.lemmas.Int.{to_z_pos}
 use Rattle.words.specs.Words.{bits_of, word_of, holds}
@@ -27,6 +29,36 @@ fits32 (negsuc n) h = record { sfits = omega arith }
 -- a word as the code reads it, from its bits
 pub read_back : (w : ℤ) → SFits w16 w → to_z w16 (of_z w16 w) ≡ w
 read_back w f = to_z-of_z {w = w16} {z = w} f
+
+-- ---- a word's low bits
+
+-- counted down from the last of them, numbers have the complement of their low bits
+complement : (size more n : ℕ) → size * more ≡ 65536 → n < 65536 → (65536 - suc n) % size ≡ size - 1 - n % size
+complement zero more n p h = absurd (omega arith)
+complement (suc low) more n p h = rw split (mod-mul-add rest size (size - 1 - n % size) (omega arith))
+  where
+    size : ℕ
+    size = suc low
+
+    rest : ℕ
+    rest = more - 1 - n / size
+
+    few : n < more * size
+    few = omega arith
+
+    below : n / size < more
+    below = (div-lt_iff_lt-mul {k = size} {x = n} {y = more} (omega arith)).1 few
+
+    split : 65536 - suc n ≡ rest * size + (size - 1 - n % size)
+    split =
+        let e : more ≡ n / size + 1 + rest = omega (arith, below) in
+        let f : size * more ≡ size * (n / size + 1 + rest) = ap (λ (m : ℕ). size * m) e in
+        omega (arith, div-add-mod n size)
+
+-- where the number of values divides 65,536, they are those of its 16 bits
+pub low_bits_of : (size more : ℕ) (w : ℤ) → size * more ≡ 65536 → SFits w16 w → of_z w16 w % size ≡ bits_of size w
+low_bits_of size more (pos n) p f = refl
+low_bits_of size more (negsuc n) p f = let h = f.sfits in complement size more n p (omega arith)
 
 -- ---- a word plus 65,536
 
