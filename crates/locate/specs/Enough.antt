@@ -7,7 +7,7 @@ use Rattle.std.proofs.Math.Bool.{true, false}
 use mathlib.Core.List.{List, [], ◌∷◌}
 use Rattle.std.proofs.Math.Decide.{dec_lt}
 use Rattle.laws.specs.declared.Refusal.{Refusal}
-use Rattle.laws.specs.Refusals.{refusal_at, Filled, Counted, number_of, place_of}
+use Rattle.laws.specs.Refusals.{refusal_at, Filled, Counted, number_of}
 use Rattle.laws.specs.Lemmas.Refusals.{refused-done}
 use Rattle.laws.specs.Lemmas.Truth.{false_if}
 use Rattle.laws.specs.Lemmas.Scan.{lowest_cong}

@@ -17,15 +17,16 @@ fn copy_blocks(list: &[u16], out: &mut [u16])
     requires { length list.now ≤ length out.old }
     ensures { out.new ≡ splice out.old 0 list.now }
 {
-    let mut k = 0;
-    while k < list.len() {
-        out[k] = list[k];
-        k += 1;
-    }
+    out[..list.len()].copy_from_slice(list);
 }
 
 // The blocks of a slot's file of an accepted image: 10, 21.
-fn slot_blocks(image: &[u8], layout: layout::Layout, slot: usize, out: &mut [u16]) -> Result<usize, Refusal>
+fn slot_blocks(
+    image: &[u8],
+    layout: layout::Layout,
+    slot: usize,
+    out: &mut [u16],
+) -> Result<usize, Refusal>
     requires { LayoutRight layout × DiskRules layout image.now }
     ensures { filled result out.new ≡ storing (file_blocks layout image.now slot) out.old }
 {
@@ -39,24 +40,19 @@ fn slot_blocks(image: &[u8], layout: layout::Layout, slot: usize, out: &mut [u16
     let size = slots::size_of(image, layout, slot);
     let start = slots::start_of(image, layout, slot);
     let chain = map::chain_blocks(image, layout, (size - 1) / 1024, start);
-    let list = chain.list;
-    let count = chain.count;
-    if out.len() < count {
+    let listed = chain.as_slice();
+    if out.len() < listed.len() {
         return Err(Refusal::OutputTooShort);
     }
-    copy_blocks(&list[0..count], out);
-    Ok(count)
+    copy_blocks(listed, out);
+    Ok(listed.len())
 }
 
 // The blocks of a slot's file, in order, to the front of the output, and how many they are.
 pub fn file_blocks(image: &[u8], slot: usize, out: &mut [u16]) -> Result<usize, Refusal>
     ensures { filled result out.new ≡ blocks_of image.now slot out.old }
 {
-    let Accepted {
-        kind,
-        density,
-        ..
-    } = disk::check(image)?;
+    let Accepted { kind, density, .. } = disk::check(image)?;
     let layout = layout::layout_of(kind, density);
     slot_blocks(image, layout, slot, out)
 }

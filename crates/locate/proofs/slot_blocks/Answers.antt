@@ -1,8 +1,8 @@
 -- `locate::slot_blocks` meets its contract: 10 for a slot without a file, 21 for a short output, else the blocks of its chain.
 -- A used slot of an accepted image has a faultless chain, which is collected and copied. Assumes nothing.
-use Rattle.std.proofs.Common.{sym, ◌∙◌, arith}
+use Rattle.std.proofs.Common.{◌≡◌, sym, ap, ◌∙◌, arith, length}
 use Rattle.calls.specs.Lemmas.Paging.{size_some, slot_chained}
-use Rattle.changes.specs.Lemmas.Lent.{count_fits, lent-all}
+use Rattle.changes.specs.Lemmas.Lent.{slice-all}
 use Rattle.locate.specs.Lemmas.Locate.{blocks_above, blocks_empty, blocks_short}
 use Rattle.locate.proofs.Lemmas.Locate.{blocks_all}
 use Rattle.locate.proofs.slot_blocks.Goals as goal
@@ -30,18 +30,19 @@ chain_blocks-chain-requires c =
       slot_chained c.args.layout c.requires.0 c.args.image.now c.requires.1 c.args.slot (omega arith) here c.size_of-size.ensures c.start_of-start.ensures,
     )
 
-pub returns-then-out-count : goal.returns-then-out-count
-returns-then-out-count c =
+pub returns-then-out-listed : goal.returns-then-out-listed
+returns-then-out-listed c =
     let a = c.args in
+    let r = c.chain_blocks-chain in
     let here = sym c.is_used.ensures ∙ c.if-not-is_used.false in
-    blocks_short a.layout a.image.now a.slot (omega arith) here c.size_of-size.ensures c.start_of-start.ensures c.chain_blocks-chain.result c.chain_blocks-chain.ensures a.out.now c.if-out-count.true
-
-pub slice_bounds-copy_blocks-end : goal.slice_bounds-copy_blocks-end
-slice_bounds-copy_blocks-end c = count_fits _ c.chain_blocks-chain.result c.chain_blocks-chain.ensures
+    let lent = c.as_slice-listed.ensures ∙ slice-all _ r.result r.ensures in
+    blocks_short a.layout a.image.now a.slot (omega arith) here c.size_of-size.ensures c.start_of-start.ensures r.result r.ensures a.out.now (omega (arith, c.if-out-listed.true, ap length lent, r.ensures.count))
 
 pub returns : goal.returns
 returns c =
     let a = c.args in
+    let r = c.chain_blocks-chain in
     let here = sym c.is_used.ensures ∙ c.if-not-is_used.false in
-    blocks_all a.layout a.image.now a.slot (omega arith) here c.size_of-size.ensures c.start_of-start.ensures c.chain_blocks-chain.result c.chain_blocks-chain.ensures a.out.now (omega arith)
-    (lent-all _ c.chain_blocks-chain.result c.chain_blocks-chain.ensures) c.copy_blocks.ensures
+    let lent = c.as_slice-listed.ensures ∙ slice-all _ r.result r.ensures in
+    let n : length c.as_slice-listed.result.now ≡ r.result.count = ap length lent ∙ sym r.ensures.count in
+    rw n (blocks_all a.layout a.image.now a.slot (omega arith) here c.size_of-size.ensures c.start_of-start.ensures r.result r.ensures a.out.now (omega arith) lent c.copy_blocks.ensures)
