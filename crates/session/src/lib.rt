@@ -21,81 +21,111 @@ pub struct Reply {
     pub name: [u8; 12],
 }
 
-// A refusal's reply.
-fn refused_reply(refusal: Refusal) -> Reply
-    ensures { result ≡ reply_of (refused_by refusal) }
-{
-    Reply {
-        number: refusal.number() as usize,
-        value: refusal.place(),
-        letter: 0,
-        end: false,
-        name: [0; 12],
-    }
-}
-
-// A reply with a value, and whether the end is reached.
-fn value_reply(value: usize, end: bool) -> Reply
-    ensures { result ≡ reply_of (paged value end) }
-{
-    Reply {
-        number: 0,
-        value,
-        letter: 0,
-        end,
-        name: [0; 12],
-    }
-}
-
-fn listed_reply(listed: Result<Entry, Refusal>) -> Reply
-    ensures { result ≡ reply_with (listed_of listed) (name_in listed) }
-{
-    match listed {
-        Ok(entry) => {
-            let name = entry.name;
-            Reply {
-                number: 0,
-                value: entry.length,
-                letter: entry.letter,
-                end: false,
-                name,
-            }
+impl Reply {
+    // A value, and whether the end is reached.
+    fn of(value: usize, end: bool) -> Reply
+        ensures { result ≡ reply_of (paged value end) }
+    {
+        Reply {
+            number: 0,
+            value,
+            letter: 0,
+            end,
+            name: [0; 12],
         }
-        Err(refusal) => refused_reply(refusal),
     }
 }
 
-fn found_reply(found: Result<usize, Refusal>) -> Reply
-    ensures { result ≡ reply_of (found_of found) }
-{
-    match found {
-        Ok(slot) => value_reply(slot, false),
-        Err(refusal) => refused_reply(refusal),
+// A refusal's number and place.
+impl From<Refusal> for Reply {
+    ghost use Rattle.std.specs.Prelude.{◌≡◌};
+    ghost use Rattle.record.specs.Record.{refused_by};
+    ghost use Rattle.session.specs.Script.{reply_of};
+
+    ghost from_gives = { λ refusal reply. reply ≡ reply_of (refused_by refusal) };
+
+    fn from(refusal: Refusal) -> Reply {
+        Reply {
+            number: refusal.number() as usize,
+            value: refusal.place(),
+            letter: 0,
+            end: false,
+            name: [0; 12],
+        }
     }
 }
 
-fn paged_reply(paged: Result<Piece, Refusal>) -> Reply
-    ensures { result ≡ reply_of (paged_of paged) }
-{
-    match paged {
-        Ok(piece) => value_reply(piece.count, piece.end),
-        Err(refusal) => refused_reply(refusal),
+// What list answers, with the name's 12 bytes.
+impl From<Result<Entry, Refusal>> for Reply {
+    ghost use Rattle.std.specs.Prelude.{◌≡◌};
+    ghost use Rattle.calls.specs.Answers.{listed_of, name_in};
+    ghost use Rattle.session.specs.Script.{reply_with};
+
+    ghost from_gives = { λ listed reply. reply ≡ reply_with (listed_of listed) (name_in listed) };
+
+    fn from(listed: Result<Entry, Refusal>) -> Reply {
+        match listed {
+            Ok(entry) => {
+                let name = entry.name;
+                Reply {
+                    number: 0,
+                    value: entry.length,
+                    letter: entry.letter,
+                    end: false,
+                    name,
+                }
+            }
+            Err(refusal) => Reply::from(refusal),
+        }
     }
 }
 
-fn removed_reply(removed: Result<(), Refusal>) -> Reply
-    ensures { result ≡ reply_of (removed_of removed) }
-{
-    match removed {
-        Ok(()) => value_reply(0, false),
-        Err(refusal) => refused_reply(refusal),
+// What find and put answer.
+impl From<Result<usize, Refusal>> for Reply {
+    ghost use Rattle.std.specs.Prelude.{◌≡◌};
+    ghost use Rattle.calls.specs.Answers.{found_of};
+    ghost use Rattle.session.specs.Script.{reply_of};
+
+    ghost from_gives = { λ found reply. reply ≡ reply_of (found_of found) };
+
+    fn from(found: Result<usize, Refusal>) -> Reply {
+        match found {
+            Ok(slot) => Reply::of(slot, false),
+            Err(refusal) => Reply::from(refusal),
+        }
     }
 }
 
-fn flag_of(end: bool) -> u8
-    ensures { result ≡ flag end }
-{
-    if end { 1 } else { 0 }
+// What a page answers.
+impl From<Result<Piece, Refusal>> for Reply {
+    ghost use Rattle.std.specs.Prelude.{◌≡◌};
+    ghost use Rattle.calls.specs.Answers.{paged_of};
+    ghost use Rattle.session.specs.Script.{reply_of};
+
+    ghost from_gives = { λ paged reply. reply ≡ reply_of (paged_of paged) };
+
+    fn from(paged: Result<Piece, Refusal>) -> Reply {
+        match paged {
+            Ok(piece) => Reply::of(piece.count, piece.end),
+            Err(refusal) => Reply::from(refusal),
+        }
+    }
+}
+
+// What remove answers.
+impl From<Result<(), Refusal>> for Reply {
+    ghost use Rattle.std.specs.Prelude.{◌≡◌};
+    ghost use Rattle.calls.specs.Answers.{removed_of};
+    ghost use Rattle.session.specs.Script.{reply_of};
+
+    ghost from_gives = { λ removed reply. reply ≡ reply_of (removed_of removed) };
+
+    fn from(removed: Result<(), Refusal>) -> Reply {
+        match removed {
+            Ok(()) => Reply::of(0, false),
+            Err(refusal) => Reply::from(refusal),
+        }
+    }
 }
 
 // Writes a name's 12 bytes behind a reply's other fields.
@@ -116,7 +146,7 @@ fn write_reply(shown: &mut [u8], reply: Reply)
     blocks::store::<3>(shown, 0, reply.number);
     blocks::store::<3>(shown, 3, reply.value);
     shown[6] = reply.letter;
-    shown[7] = flag_of(end);
+    shown[7] = u8::from(end);
     write_name(shown, name);
 }
 
@@ -127,7 +157,7 @@ fn make_list(image: &[u8], slot: usize, shown: &mut [u8])
     ensures image { image.now ≡ (call_of image.now (list_call slot)).state }
 {
     let listed = calls::list(image, slot);
-    write_reply(shown, listed_reply(listed));
+    write_reply(shown, Reply::from(listed));
 }
 
 fn make_page(image: &[u8], slot: usize, offset: usize, shown: &mut [u8])
@@ -136,7 +166,7 @@ fn make_page(image: &[u8], slot: usize, offset: usize, shown: &mut [u8])
     ensures image { image.now ≡ (call_of image.now (page_call slot offset (part shown.old 20 1024))).state }
 {
     let paged = calls::page(image, slot, offset, &mut shown[20..1044]);
-    write_reply(shown, paged_reply(paged));
+    write_reply(shown, Reply::from(paged));
 }
 
 fn make_find(image: &[u8], name: &[u8], letter: u8, shown: &mut [u8])
@@ -145,7 +175,7 @@ fn make_find(image: &[u8], name: &[u8], letter: u8, shown: &mut [u8])
     ensures image { image.now ≡ (call_of image.now (find_call name.now letter)).state }
 {
     let found = calls::find(image, name, letter);
-    write_reply(shown, found_reply(found));
+    write_reply(shown, Reply::from(found));
 }
 
 fn make_remove(image: &mut [u8], name: &[u8], letter: u8, shown: &mut [u8])
@@ -154,7 +184,7 @@ fn make_remove(image: &mut [u8], name: &[u8], letter: u8, shown: &mut [u8])
     ensures image { image.new ≡ (call_of image.old (remove_call name.now letter)).state }
 {
     let removed = calls::remove(image, name, letter);
-    write_reply(shown, removed_reply(removed));
+    write_reply(shown, Reply::from(removed));
 }
 
 fn make_put(image: &mut [u8], name: &[u8], letter: u8, content: &[u8], shown: &mut [u8])
@@ -163,18 +193,26 @@ fn make_put(image: &mut [u8], name: &[u8], letter: u8, content: &[u8], shown: &m
     ensures image { image.new ≡ (call_of image.old (put_call name.now letter content.now)).state }
 {
     let found = calls::put(image, name, letter, content);
-    write_reply(shown, found_reply(found));
+    write_reply(shown, Reply::from(found));
 }
 
 // Whether n bytes from an offset on lie in as many as there are.
 fn is_in(size: usize, at: usize, n: usize) -> bool
     ensures { result ≡ fits size at n }
 {
-    if at > size {
-        return false;
-    }
-    n <= size - at
+    at <= size && n <= size - at
 }
+
+// The calls by an entry's first byte. An enum would be made of it only to be matched on at once.
+const LIST: u8 = 0;
+
+const PAGE: u8 = 1;
+
+const FIND: u8 = 2;
+
+const REMOVE: u8 = 3;
+
+const PUT: u8 = 4;
 
 // Puts with a content from the pool, if it lies there.
 fn run_put(image: &mut [u8], name: &[u8], entry: &[u8], pool: &[u8], shown: &mut [u8]) -> bool
@@ -196,19 +234,18 @@ fn run_named(image: &mut [u8], name: &[u8], entry: &[u8], pool: &[u8], shown: &m
     requires { (length entry.now ≡ 20) × (1044 ≤ length shown.old) }
     ensures { after_entry result shown.new image.new ≡ entered_by (named_entry name.now entry.now pool.now) image.old shown.old }
 {
-    let op = entry[0];
-    if op == 2 {
-        make_find(image, name, entry[1], shown);
-        return true;
+    match entry[0] {
+        FIND => {
+            make_find(image, name, entry[1], shown);
+            true
+        }
+        REMOVE => {
+            make_remove(image, name, entry[1], shown);
+            true
+        }
+        PUT => run_put(image, name, entry, pool, shown),
+        _ => false,
     }
-    if op == 3 {
-        make_remove(image, name, entry[1], shown);
-        return true;
-    }
-    if op != 4 {
-        return false;
-    }
-    run_put(image, name, entry, pool, shown)
 }
 
 // One entry: whether it is a call. If not, nothing is written.
@@ -216,22 +253,25 @@ fn run_entry(image: &mut [u8], entry: &[u8], pool: &[u8], shown: &mut [u8]) -> b
     requires { (length entry.now ≡ 20) × (1044 ≤ length shown.old) }
     ensures { after_entry result shown.new image.new ≡ entered image.old entry.now pool.now shown.old }
 {
-    let op = entry[0];
     let a = blocks::number::<4>(entry, 4);
     let b = blocks::number::<4>(entry, 8);
-    if op == 0 {
-        make_list(image, a, shown);
-        return true;
+    match entry[0] {
+        LIST => {
+            make_list(image, a, shown);
+            true
+        }
+        PAGE => {
+            make_page(image, a, b, shown);
+            true
+        }
+        _ => {
+            if !is_in(pool.len(), a, b) {
+                return false;
+            }
+            let stop = a + b;
+            run_named(image, &pool[a..stop], entry, pool, shown)
+        }
     }
-    if op == 1 {
-        make_page(image, a, b, shown);
-        return true;
-    }
-    if !is_in(pool.len(), a, b) {
-        return false;
-    }
-    let stop = a + b;
-    run_named(image, &pool[a..stop], entry, pool, shown)
 }
 
 // Runs a script on an image, and says how many calls were made: it ends before the first entry that is no call, at the script's end, or where
@@ -239,18 +279,16 @@ fn run_entry(image: &mut [u8], entry: &[u8], pool: &[u8], shown: &mut [u8]) -> b
 pub fn run(image: &mut [u8], script: &[u8], pool: &[u8], out: &mut [u8]) -> usize
     ensures { after_run result out.new image.new ≡ run_of image.old script.now pool.now out.old }
 {
-    let n = blocks::least(script.len() / 20, out.len() / 1044);
-    let mut k = 0;
-    while k < n {
+    let n = (script.len() / 20).min(out.len() / 1044);
+    for k in 0..n {
         let from = 20 * k;
         let to = from + 20;
         let at = 1044 * k;
         let end = at + 1044;
         let made = run_entry(image, &script[from..to], pool, &mut out[at..end]);
         if !made {
-            break;
+            return k;
         }
-        k += 1;
     }
-    k
+    n
 }

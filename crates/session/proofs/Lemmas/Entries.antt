@@ -1,10 +1,10 @@
 -- What an entry comes to, by the tests that the code makes on its bytes.
 -- By the tests in the definition's order. Assumes nothing.
-use Rattle.std.specs.Prelude.{◌≡◌, refl, Bool, true, false, List, ℕ, suc, ◌+◌, ◌-◌, ◌*◌, ◌≤◌, ◌<◌, length, take, drop}
+use Rattle.std.specs.Prelude.{◌≡◌, refl, Bool, true, false, List, ℕ, suc, ◌+◌, ◌-◌, ◌*◌, ◌≤◌, ◌<◌, length, take, drop, ◌++◌}
 use Rattle.std.proofs.Common.{sym, ap, ◌∙◌, add-one, arith, take-append-drop}
 use Rattle.laws.specs.Truth.{pick}
 use Rattle.laws.specs.Splice.{splice, part}
-use Rattle.laws.specs.Lemmas.Splice.{length_part, lent_back}
+use Rattle.laws.specs.Lemmas.Splice.{length_part, lent_back, length-lent}
 use Rattle.session.specs.Script.{entry_call, after_entry, Entered, entered, after_run, run_from}
 use Rattle.session.specs.Lemmas.Entries.{lent-part, stopped}
 
@@ -44,3 +44,9 @@ run_stop script pool n k img out {last = last} {after = after} h f m e =
     let own = lent-entry script pool img out k (ap (λ (b : Bool). after_entry b last after) (sym m) ∙ e) in
     let kept = stopped img (part out (1044 * k) 1044) (entry_call (part script (20 * k) 20) pool (part (part out (1044 * k) 1044) 20 1024)) own in
     run_next script pool n k img out h own ∙ rw (kept.0, kept.1, own_part out (1044 * k) 1044 f) refl
+
+-- a call's part of the output, written by it and given back
+pub part_back : (out shown : List ℕ) (k : ℕ) → 1044 * k + 1044 ≤ length out → length shown ≡ length (take (1044 * k + 1044 - 1044 * k) (drop (1044 * k) out))
+    → take (1044 * k) out ++ (shown ++ drop (1044 * k + 1044 - 1044 * k) (drop (1044 * k) out)) ≡ splice out (1044 * k) shown
+part_back out shown k fit e =
+    lent_back out (1044 * k) (1044 * k + 1044) shown (omega arith) fit (e ∙ length-lent out (1044 * k) (1044 * k + 1044) fit) refl

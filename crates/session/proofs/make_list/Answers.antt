@@ -16,7 +16,7 @@ returns c =
     let e : ListMade a.image.now a.slot c.list-listed.result = c.list-listed.ensures in
     let o = call_of a.image.now (list_call a.slot) in
     record {
-      reply = shown_as a.shown.now o (c.listed_reply.ensures ∙ list_reply a.image.now o c.list-listed.result e)
+      reply = shown_as a.shown.now o (c.from.ensures ∙ list_reply a.image.now o c.list-listed.result e)
           (splice_none a.shown.now 20 ∙ ap (λ (o : Outcome (List ℕ)). splice a.shown.now 20 o.output) e.answer) c.write_reply.ensures;
       image = ap (λ (o : Outcome (List ℕ)). o.state) e.answer;
     }

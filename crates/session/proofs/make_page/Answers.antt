@@ -19,7 +19,7 @@ returns c =
     let e : PageMade a.image.now a.slot a.offset _ c.page-paged.result _ = c.page-paged.ensures in
     let o = call_of a.image.now (page_call a.slot a.offset (part s 20 1024)) in
     record {
-      reply = shown_as s o (c.paged_reply.ensures ∙ ap (λ (o : Outcome (List ℕ)). reply_of o.answer) e)
+      reply = shown_as s o (c.from.ensures ∙ ap (λ (o : Outcome (List ℕ)). reply_of o.answer) e)
           (lent_back s 20 1044 c.page-paged.new.out (omega arith) (omega arith) (omega (arith, length-lent s 20 1044 (omega arith))) refl ∙ ap (λ (o : Outcome (List ℕ)). splice s 20 o.output) e) c.write_reply.ensures;
       image = ap (λ (o : Outcome (List ℕ)). o.state) e;
     }

@@ -17,7 +17,7 @@ returns c =
     let e : RemoveMade a.image.now a.name.now a.letter c.remove-removed.result _ = c.remove-removed.ensures in
     let o = call_of a.image.now (remove_call a.name.now a.letter) in
     record {
-      reply = shown_as a.shown.now o (c.removed_reply.ensures ∙ ap (λ (o : Outcome (List ℕ)). reply_of o.answer) e)
+      reply = shown_as a.shown.now o (c.from.ensures ∙ ap (λ (o : Outcome (List ℕ)). reply_of o.answer) e)
           (splice_none a.shown.now 20 ∙ ap (λ (o : Outcome (List ℕ)). splice a.shown.now 20 o.output) e) c.write_reply.ensures;
       image = ap (λ (o : Outcome (List ℕ)). o.state) e;
     }

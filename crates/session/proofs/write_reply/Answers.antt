@@ -13,4 +13,4 @@ write_name-requires c = simp length-set (omega arith)
 pub returns : goal.returns
 returns c =
     let a = c.args in
-    reply_written a.shown.now a.reply c.store.ensures c.store-2.ensures c.flag_of.ensures c.write_name.ensures
+    reply_written a.shown.now a.reply c.store.ensures c.store-2.ensures c.from.ensures c.write_name.ensures
