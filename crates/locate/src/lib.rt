@@ -30,11 +30,7 @@ fn slot_blocks(
     requires { LayoutRight layout × DiskRules layout image.now }
     ensures { filled result out.new ≡ storing (file_blocks layout image.now slot) out.old }
 {
-    let slots = layout.slots;
-    if slots <= slot {
-        return Err(Refusal::NoFile);
-    }
-    if !slots::is_used(image, layout, slot) {
+    if slot >= layout.slots || !slots::is_used(image, layout, slot) {
         return Err(Refusal::NoFile);
     }
     let size = slots::size_of(image, layout, slot);

@@ -38,7 +38,7 @@ pub fn is_link(layout: layout::Layout, value: usize) -> bool
     (layout.first..layout.blocks).contains(&value)
 }
 
-// Follows a block's link, and counts it where it does.
+// Follows a block's link, and counts it where it does: the counter is lent down to here (docs/DECISIONS.md, "What a page costs").
 fn follow(image: &[u8], block: usize, followed: &mut usize) -> usize
     requires { (map_offset block + 2 ≤ length image.now) × (followed.old + 1 < 2 ^ 64) }
     ensures value { result ≡ map_at (bytes image.now) block }

@@ -18,7 +18,7 @@ pub struct Cost {
     pub runs: usize,
 }
 
-// Copies a run to the output, and counts it where it does.
+// Copies a run to the output, and counts it where it does: the counter is lent down to here (docs/DECISIONS.md, "What a page costs").
 fn copy_counted(image: &[u8], from: usize, out: &mut [u8], at: usize, n: usize, runs: &mut usize)
     requires { (from + n ≤ length image.now) × (at + n ≤ length out.old) × (runs.old + 1 < 2 ^ 64) }
     ensures out_after { out.new ≡ splice out.old at (part image.now from n) }

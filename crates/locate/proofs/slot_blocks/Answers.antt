@@ -5,17 +5,16 @@ use Rattle.calls.specs.Lemmas.Paging.{size_some, slot_chained}
 use Rattle.changes.specs.Lemmas.Lent.{slice-all}
 use Rattle.locate.specs.Lemmas.Locate.{blocks_above, blocks_empty, blocks_short}
 use Rattle.locate.proofs.Lemmas.Locate.{blocks_all}
+use Rattle.locate.proofs.slot_blocks.Goals.{then-slot-layout-via-then-slot-layout, then-slot-layout-via-else-slot-layout+then-not-is_used}
 use Rattle.locate.proofs.slot_blocks.Goals as goal
 
-pub returns-then-slots-slot : goal.returns-then-slots-slot
-returns-then-slots-slot c =
+pub returns-then-slot-layout : goal.returns-then-slot-layout
+returns-then-slot-layout c =
     let a = c.args in
-    blocks_above a.layout a.image.now a.slot a.out.now c.if-slots-slot.true
-
-pub returns-then-not-is_used : goal.returns-then-not-is_used
-returns-then-not-is_used c =
-    let a = c.args in
-    blocks_empty a.layout a.image.now a.slot a.out.now (omega arith) (sym c.is_used.ensures ∙ c.if-not-is_used.true)
+    elim c.then-slot-layout.branch [
+      | then-slot-layout-via-then-slot-layout w ↦ blocks_above a.layout a.image.now a.slot a.out.now w.if-slot-layout.true
+      | then-slot-layout-via-else-slot-layout+then-not-is_used w ↦ blocks_empty a.layout a.image.now a.slot a.out.now (omega arith) (sym w.is_used.ensures ∙ w.if-not-is_used.true)
+    ]
 
 pub overflow_sub-size : goal.overflow_sub-size
 overflow_sub-size c =
