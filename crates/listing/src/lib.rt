@@ -15,11 +15,12 @@ ghost use Rattle.listing.specs.Lines.{slot_answer, lines_of};
 ghost use Rattle.listing.specs.Puts.{Puts, Fills};
 
 use laws::Refusal;
-use std::io::{Print, Read, Result};
+use rules::Accepted;
+use std::io::{Print, Read};
 use std::rt::{Stdin, Stdout};
 
 // Reads until the buffer is full or the input ends, and says how many bytes came. Where a read fails, some of the buffer may be written.
-pub fn read_full(input: &mut Stdin, buffer: &mut [u8]) -> Result<usize>
+pub fn read_full(input: &mut Stdin, buffer: &mut [u8]) -> std::io::Result<usize>
     ensures ok { IfOk result (λ count. IsPrefixLen count buffer.new) }
     ensures err { OnErr result (length buffer.new ≡ length buffer.old) }
 {
@@ -35,7 +36,7 @@ pub fn read_full(input: &mut Stdin, buffer: &mut [u8]) -> Result<usize>
 }
 
 // Reads up to 65,536 bytes more, and says how many came.
-fn skip_some(input: &mut Stdin) -> Result<usize>
+fn skip_some(input: &mut Stdin) -> std::io::Result<usize>
     ensures { IfOk result (λ count. count ≤ 65536) }
 {
     let mut space = [0u8; 65536];
@@ -43,7 +44,7 @@ fn skip_some(input: &mut Stdin) -> Result<usize>
 }
 
 // How many bytes are left on standard input, as far as 64 turns count: that is more than any image has.
-fn count_rest(input: &mut Stdin) -> Result<usize>
+fn count_rest(input: &mut Stdin) -> std::io::Result<usize>
     ensures { IfOk result (λ count. count ≤ 4194304) }
 {
     let mut total: usize = 0;
@@ -90,8 +91,8 @@ pub fn put_refused(refusal: Refusal, out: &mut [u8; 24576], at: usize) -> usize
     requires { at ≤ 24576 }
     ensures { Puts 52 (refused_text refusal) at out.old out.new result }
 {
-    let next = put_number(b"refused ", refusal.number as usize, out, at);
-    put_number(b" at ", refusal.place, out, next)
+    let next = put_number(b"refused ", refusal.number() as usize, out, at);
+    put_number(b" at ", refusal.place(), out, next)
 }
 
 fn kind_number(kind: layout::Kind) -> usize
@@ -211,7 +212,7 @@ pub fn lines(head: &[u8], length: usize, out: &mut [u8; 24576]) -> usize
 }
 
 // Lists the image on standard input: of its bytes the first 17,408 are kept, the rest is counted. A read or write that fails is an error.
-pub fn run(mut input: Stdin, output: Stdout) -> Result<()> {
+pub fn run(mut input: Stdin, output: Stdout) -> std::io::Result<()> {
     let mut head = [0u8; 17408];
     let kept = read_full(&mut input, &mut head)?;
     let rest = count_rest(&mut input)?;

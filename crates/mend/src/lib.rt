@@ -180,7 +180,7 @@ fn mark_kept(
         return;
     }
     let count = chains::links_of(image, layout, slot) + 1;
-    map::mark_blocks(marks, list, count);
+    map::mark_blocks(marks, &list[..count]);
 }
 
 // 1 or 0, as a byte of the report.

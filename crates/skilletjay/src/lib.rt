@@ -210,9 +210,9 @@ fn counted_result(counted: Result<usize, Refusal>) -> CCounted
             place: 0,
             count,
         },
-        Err(refusal) => CCounted {
-            refusal: refusal.number(),
-            place: refusal.place(),
+        Err(refused) => CCounted {
+            refusal: refused.number(),
+            place: refused.place(),
             count: 0,
         },
     }

@@ -4,4 +4,4 @@ use Rattle.listing.specs.Lemmas.Puts.{puts_then}
 use Rattle.listing.proofs.put_refused.Goals as goal
 
 pub returns : goal.returns
-returns c = puts_then c.put_number-next.ensures c.put_number.ensures
+returns c = puts_then (rw c.number.ensures at c.put_number-next.ensures) (rw c.place.ensures at c.put_number.ensures)

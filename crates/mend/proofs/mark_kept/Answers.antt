@@ -14,10 +14,13 @@ overflow_add-count c =
     let p = c.requires in
     omega (arith, (kept_listed _ _ _ (sym p.3 ∙ c.if-verdict-ne1.false) p.0 c.links_of-count.ensures c.if-verdict-ne1.false p.4).0)
 
+pub shared_ref_as_front-mark_blocks : goal.shared_ref_as_front-mark_blocks
+shared_ref_as_front-mark_blocks c =
+    let p = c.requires in (kept_listed _ _ _ (sym p.3 ∙ c.if-verdict-ne1.false) p.0 c.links_of-count.ensures c.if-verdict-ne1.false p.4).0
+
 pub mark_blocks-requires : goal.mark_blocks-requires
 mark_blocks-requires c =
-    let p = c.requires in
-    kept_listed _ _ _ (sym p.3 ∙ c.if-verdict-ne1.false) p.0 c.links_of-count.ensures c.if-verdict-ne1.false p.4
+    let p = c.requires in (kept_listed _ _ _ (sym p.3 ∙ c.if-verdict-ne1.false) p.0 c.links_of-count.ensures c.if-verdict-ne1.false p.4).2
 
 pub returns : goal.returns
 returns c =
