@@ -2,8 +2,8 @@
 -- Each turn is one law of a count. Assumes nothing.
 use Rattle.chains.proofs.count_marked.Invariants.{is_marked}
 use Rattle.chains.proofs.count_marked.Goals.{then-marks-block, else-marks-block}
-use Rattle.std.proofs.Common.{◌-◌, arith}
-use Rattle.laws.specs.Lemmas.Scan.{count_end, count_stop, count-on, count_split}
+use Rattle.std.proofs.Common.{arith}
+use Rattle.laws.specs.Lemmas.Scan.{count_end, count_stop, count-on}
 use Rattle.chains.proofs.count_marked.Goals as goal
 
 pub bounds-marks-block : goal.bounds-marks-block
@@ -13,10 +13,6 @@ pub loop-block-preserved : goal.loop-block-preserved
 loop-block-preserved c =
     let f = is_marked c.args.marks.now in
     elim c.if-marks-block.branch [ then-marks-block w ↦ (omega arith, omega (arith, count_stop f _ _ c.loop-block-test.true w.if-marks-block.true)) | else-marks-block w ↦ (omega arith, omega (arith, count-on f _ _ c.loop-block-test.true w.if-marks-block.false)) ]
-
-pub overflow_cast-result : goal.overflow_cast-result
-overflow_cast-result c =
-    omega (arith, c.requires.blocks_most, count_split (is_marked c.args.marks.now) c.args.layout.first (c.args.layout.blocks - c.args.layout.first))
 
 pub returns : goal.returns
 returns c = omega (arith, count_end (is_marked c.args.marks.now) _ _ c.loop-block-test.false)

@@ -8,7 +8,4 @@ abbrev pub is_marked : List Bool → ℕ → Bool
 is_marked marks block = get_or marks block false
 
 abbrev pub invariant-loop-block : goal.invariant-loop-block
-invariant-loop-block l = (l.marked ≤ l.block) × (l.marked + count (is_marked l.marks) l.block (l.end - l.block) ≡ count (is_marked l.marks) l.initial.block (l.end - l.initial.block))
-
-abbrev pub decreases-loop-block : goal.decreases-loop-block
-decreases-loop-block l = l.end - l.block
+invariant-loop-block l = (l.marked ≤ l.block) × (l.marked + count (is_marked l.marks) l.block (l.block-end - l.block) ≡ count (is_marked l.marks) l.initial.block (l.block-end - l.initial.block))
