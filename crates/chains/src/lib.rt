@@ -33,7 +33,7 @@ pub fn links_of(head: &[u8], layout: layout::Layout, slot: usize) -> usize
 }
 
 // The lowest slot whose chain has a fault, refused by the chain's first one (6 or 7). The marks are left as those of all chains where
-// there is none.
+// there is none. The loop over the slots counts by hand: its form is fixed (a labelled break yields the fault), and no `for` yields a value.
 fn chain_fault(head: &[u8], layout: layout::Layout, marks: &mut [bool; 1600]) -> Result<(), Refusal>
     requires { LayoutRight layout × (block_offset layout.first ≤ length head.now) × (marks.old ≡ replicate 1600 false) }
     ensures { Followed layout (view_of layout (bytes head.now)) marks.new result }
@@ -95,8 +95,8 @@ fn count_marked(layout: layout::Layout, marks: &[bool; 1600]) -> usize
     ensures { result ≡ count (λ b. get_or marks.now b false) layout.first (layout.blocks - layout.first) }
 {
     let mut marked = 0u16;
-    for block in layout.first..layout.blocks {
-        if marks[block] {
+    for &mark in &marks[layout.first..layout.blocks] {
+        if mark {
             marked += 1;
         }
     }
