@@ -83,9 +83,8 @@ fn slot_named(image: &[u8], layout: layout::Layout, name: &[u8], letter: u8) -> 
     ensures { result ≡ slot_of layout (files_in layout image.now) name.now letter }
 {
     let area = names::area_of(layout, name);
-    let low = slots::key(&area, 0);
-    let high = slots::key(&area, 8);
-    slots::find_keys(image, layout, low, high, letter)
+    let keys = slots::Keys::of(&area, 0, letter);
+    slots::find_keys(image, layout, keys)
 }
 
 // How find and remove are judged on an accepted image: 11, 10.
