@@ -22,9 +22,7 @@ pub(crate) fn set_word(image: &mut Image, at: usize, value: usize) {
 // Stores a word at `count` offsets, `step` apart.
 pub(crate) fn set_words(image: &mut Image, at: usize, value: usize, count: usize, step: usize) {
     let mut next = at;
-    let mut left = count;
-    while left > 0 {
-        left -= 1;
+    for _ in 0..count {
         set_word(image, next, value);
         next = moved(next, step);
     }
@@ -32,12 +30,11 @@ pub(crate) fn set_words(image: &mut Image, at: usize, value: usize, count: usize
 
 // An offset and a step added, where both are small; else an offset past every image.
 fn moved(at: usize, step: usize) -> usize {
-    if at < 1638401 {
-        if step < 1638401 {
-            return at + step;
-        }
+    if at < 1638401 && step < 1638401 {
+        at + step
+    } else {
+        1638401
     }
-    1638401
 }
 
 // Where a block's map value lies, its bytes, a slot, and one of the second directory; for a number too large, an offset
@@ -73,9 +70,7 @@ pub(crate) fn set_map(image: &mut Image, block: usize, value: usize) {
 // Stores the links of `count` blocks in rising order, and a value at the last.
 pub(crate) fn set_links(image: &mut Image, block: usize, count: usize, value: usize) {
     let mut next = block;
-    let mut left = count;
-    while left > 1 {
-        left -= 1;
+    for _ in 1..count {
         let link = moved(next, 1);
         set_map(image, next, link);
         next = link;
@@ -85,14 +80,9 @@ pub(crate) fn set_links(image: &mut Image, block: usize, count: usize, value: us
 
 // Stores count bytes from a block on, that count up modulo 251.
 pub(crate) fn set_data(image: &mut Image, block: usize, count: usize, first: usize) {
-    let mut next = block_at(block);
-    let mut value = first % 251;
-    let mut left = count;
-    while left > 0 {
-        left -= 1;
-        set_byte(image, next, value);
-        next = moved(next, 1);
-        value = (value + 1) % 251;
+    let at = block_at(block);
+    for i in 0..count {
+        set_byte(image, moved(at, i), (first % 251 + i % 251) % 251);
     }
 }
 
@@ -104,26 +94,22 @@ fn akaii(byte: u8) -> usize {
 // A name's byte as the kind stores it.
 fn stored(byte: u8, s1000: bool) -> usize {
     if s1000 {
-        return akaii(byte);
+        akaii(byte)
+    } else {
+        usize::from(byte)
     }
-    byte as usize
 }
 
 // The byte of a name at an index of its text, spaces past its end.
 fn letter_at(text: &[u8], at: usize) -> u8 {
-    if at < text.len() { text[at] } else { b' ' }
+    *text.get(at).unwrap_or(&b' ')
 }
 
 // Stores a name, `count` bytes of the text from an index on.
 fn set_name(image: &mut Image, at: usize, text: &[u8], from: usize, count: usize, s1000: bool) {
-    let mut to = at;
-    let mut next = from;
-    let mut left = count;
-    while left > 0 {
-        left -= 1;
-        set_byte(image, to, stored(letter_at(text, next), s1000));
-        to = moved(to, 1);
-        next = moved(next, 1);
+    for i in 0..count {
+        let letter = letter_at(text, moved(from, i));
+        set_byte(image, moved(at, i), stored(letter, s1000));
     }
 }
 
@@ -138,7 +124,7 @@ struct Fields {
 }
 
 fn fields_of(text: &[u8]) -> Fields {
-    let slot = line::number(text, line::word_end(text, 0));
+    let slot = line::number(text, line::word_end(text));
     let letter_at = moved(slot.next, 1);
     let letter = line::byte_at(text, letter_at);
     let size = line::number(text, moved(letter_at, 1));
@@ -172,7 +158,7 @@ pub(crate) fn set_entry(image: &mut Image, text: &[u8]) {
         set_name(image, at, text, fields.name, 10, false);
         set_words(image, moved(at, 10), 0, 3, 2);
     }
-    set_file(image, at, fields.letter as usize, fields.size, fields.start);
+    set_file(image, at, usize::from(fields.letter), fields.size, fields.start);
 }
 
 // Stores a slot of the second directory, with its identity.
@@ -182,7 +168,7 @@ pub(crate) fn set_other(image: &mut Image, text: &[u8]) {
     set_name(image, at, text, fields.name, 12, true);
     set_word(image, moved(at, 12), 0);
     set_word(image, moved(at, 14), 512);
-    let byte = fields.letter as usize + 128;
+    let byte = usize::from(fields.letter) + 128;
     set_file(image, at, byte, fields.size, fields.start);
     set_word(image, moved(at, 22), 3072);
 }

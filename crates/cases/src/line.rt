@@ -1,5 +1,5 @@
 // What stands on a line: words, numbers, texts.
-ghost use Rattle.std.specs.Prelude.{◌≤◌, ◌<◌, length};
+ghost use Rattle.std.specs.Prelude.{◌≤◌, ◌<◌, length, IfSome};
 
 // A number, and where it ends.
 #[derive(Clone, Copy)]
@@ -10,16 +10,16 @@ pub(crate) struct Parsed {
 
 // The byte at an index, or a line's end.
 pub(crate) fn byte_at(text: &[u8], at: usize) -> u8 {
-    if at < text.len() { text[at] } else { b'\n' }
+    *text.get(at).unwrap_or(&b'\n')
 }
 
-// The value of a digit, or 10.
-fn digit(byte: u8) -> usize
-    ensures { result ≤ 10 }
+// The value of a digit.
+fn digit(byte: u8) -> Option<usize>
+    ensures { IfSome result (λ value. value < 10) }
 {
     match byte {
-        48..=57 => (byte - 48) as usize,
-        _ => 10,
+        b'0'..=b'9' => Some(usize::from(byte - b'0')),
+        _ => None,
     }
 }
 
@@ -30,51 +30,28 @@ fn longer(value: usize, digit: usize) -> usize
     if value < 1844674407370955161 {
         value * 10 + digit
     } else {
-        18446744073709551615
+        usize::MAX
     }
 }
 
-// The number after the space at an index.
+// The number after the space at an index. It ends at whatever is no digit, so the loop says where it stands.
 pub(crate) fn number(text: &[u8], at: usize) -> Parsed {
     let mut value: usize = 0;
     let mut next = at;
     while next < text.len() {
         next += 1;
-        let digit = digit(byte_at(text, next));
-        if digit == 10 {
+        let Some(digit) = digit(byte_at(text, next)) else {
             break;
-        }
+        };
         value = longer(value, digit);
     }
     Parsed { value, next }
 }
 
-// Where the word from an index on ends: at a space, or with the text.
-pub(crate) fn word_end(text: &[u8], at: usize) -> usize
-    requires { at ≤ length text.now }
-{
-    end_of(text, at, b' ')
-}
-
-// Where the line from an index on ends.
-pub(crate) fn line_end(text: &[u8], at: usize) -> usize
-    requires { at ≤ length text.now }
-    ensures { (at ≤ result) × (result ≤ length text.now) }
-{
-    end_of(text, at, b'\n')
-}
-
-// The first place from an index on where a byte stands, or the text's end.
-fn end_of(text: &[u8], at: usize, byte: u8) -> usize
-    requires { at ≤ length text.now }
-    ensures { (at ≤ result) × (result ≤ length text.now) }
-{
-    let mut end = at;
-    while end < text.len() {
-        if text[end] == byte {
-            break;
-        }
-        end += 1;
+// Where the first word ends: at a space, or with the text.
+pub(crate) fn word_end(text: &[u8]) -> usize {
+    match text.iter().position(|&byte| byte == b' ') {
+        Some(at) => at,
+        None => text.len(),
     }
-    end
 }

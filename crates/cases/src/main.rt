@@ -27,21 +27,22 @@ mod build;
 mod line;
 mod print;
 
-use std::io::{Print, Result};
+use std::io;
+use std::io::Print;
 use std::rt::Stdout;
 
 // Room for the longest image and one byte more, so that one that is too long can be asked about.
 pub(crate) type Image = [u8; 1638401];
 
 // Prints the line, with its end.
-fn print_text(output: Stdout, text: &[u8]) -> Result<()> {
+fn print_text(output: Stdout, text: &[u8]) -> io::Result<()> {
     output.write_all(text)?;
     print::line_end(output)
 }
 
 // Runs a command that changes the image, and gives the image's length after it.
 fn store(image: &mut Image, length: usize, text: &[u8]) -> usize {
-    let a = line::number(text, line::word_end(text, 0));
+    let a = line::number(text, line::word_end(text));
     let b = line::number(text, a.next);
     let c = line::number(text, b.next);
     let d = line::number(text, c.next);
@@ -64,8 +65,8 @@ fn store(image: &mut Image, length: usize, text: &[u8]) -> usize {
 }
 
 // Runs a command that asks something of the image.
-fn ask(output: Stdout, image: &[u8], text: &[u8]) -> Result<()> {
-    let a = line::number(text, line::word_end(text, 0));
+fn ask(output: Stdout, image: &[u8], text: &[u8]) -> io::Result<()> {
+    let a = line::number(text, line::word_end(text));
     let b = line::number(text, a.next);
     let c = line::number(text, b.next);
     match line::byte_at(text, 0) {
@@ -79,55 +80,29 @@ fn ask(output: Stdout, image: &[u8], text: &[u8]) -> Result<()> {
     }
 }
 
-// Runs a command on the image's first bytes, as many as it has.
-fn ask_part(output: Stdout, image: &[u8], length: usize, text: &[u8]) -> Result<()> {
-    if length <= image.len() {
-        ask(output, &image[0..length], text)?;
-    }
-    Ok(())
-}
-
-fn ask_first(output: Stdout, image: &Image, length: usize, text: &[u8]) -> Result<()> {
-    ask_part(output, image, length, text)
-}
-
 // Runs a command that mends the image.
-fn mend(output: Stdout, image: &mut [u8], text: &[u8]) -> Result<()> {
-    let a = line::number(text, line::word_end(text, 0));
-    if line::byte_at(text, 0) == b's' {
-        answers::salvage(output, image, a.value)?;
+fn mend(output: Stdout, image: &mut [u8], text: &[u8]) -> io::Result<()> {
+    match line::byte_at(text, 0) {
+        b's' => answers::salvage(output, image, line::number(text, line::word_end(text)).value),
+        _ => Ok(()),
     }
-    Ok(())
 }
 
-// Runs it on the image's first bytes, as many as it has.
-fn mend_part(output: Stdout, image: &mut [u8], length: usize, text: &[u8]) -> Result<()> {
-    if length <= image.len() {
-        mend(output, &mut image[0..length], text)?;
-    }
-    Ok(())
-}
-
-fn mend_first(output: Stdout, image: &mut Image, length: usize, text: &[u8]) -> Result<()> {
-    mend_part(output, image, length, text)
-}
-
-// Runs one line, and gives the image's length after it.
-fn command(output: Stdout, image: &mut Image, length: usize, text: &[u8]) -> Result<usize> {
+// Runs one line, and gives the image's length after it. What is asked and mended are the image's first bytes, as many as it has.
+fn command(output: Stdout, image: &mut Image, length: usize, text: &[u8]) -> io::Result<usize> {
     let after = store(image, length, text);
-    ask_first(output, image, after, text)?;
-    mend_first(output, image, after, text)?;
+    if after <= image.len() {
+        ask(output, &image[..after], text)?;
+        mend(output, &mut image[..after], text)?;
+    }
     Ok(after)
 }
 
 // Runs the lines of a text.
-fn run(output: Stdout, image: &mut Image, text: &[u8]) -> Result<()> {
+fn run(output: Stdout, image: &mut Image, text: &[u8]) -> io::Result<()> {
     let mut length: usize = 0;
-    let mut at: usize = 0;
-    while at < text.len() {
-        let end = line::line_end(text, at);
-        length = command(output, image, length, &text[at..end])?;
-        at = end + 1;
+    for line in text.split(|&byte| byte == b'\n') {
+        length = command(output, image, length, line)?;
     }
     Ok(())
 }
@@ -136,7 +111,7 @@ fn blank() -> Image {
     [0; 1638401]
 }
 
-fn main(rt: HostRuntime) -> Result<()> {
+fn main(rt: HostRuntime) -> io::Result<()> {
     let mut image = blank();
     let mut text = [0u8; 65536];
     let count = listing::read_full(&mut rt.stdin(), &mut text)?;

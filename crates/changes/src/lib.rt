@@ -17,16 +17,9 @@ fn write_blocks(image: &mut [u8], layout: layout::Layout, chosen: &[u16], conten
     requires { (length image.old ≡ image_length layout) × (layout.blocks ≤ 1600) × ((b : ℕ) → In b chosen.now → b < layout.blocks) × (blocks_for (length content.now) ≡ length chosen.now) }
     ensures { image.new ≡ write_blocks image.old chosen.now content.now }
 {
-    let end = layout.blocks;
-    let total = content.len();
-    let mut k = 0;
-    while k < chosen.len() {
-        let from = 1024 * k;
-        let to = blocks::least(total, from + 1024);
-        let at = 1024 * map::block_of(chosen, k, end);
-        let stop = at + 1024;
-        blocks::write_block(&mut image[at..stop], &content[from..to]);
-        k += 1;
+    for (&block, part) in chosen.iter().zip(content.chunks(1024)) {
+        let at = 1024 * usize::from(block);
+        blocks::write_block(&mut image[at..at + 1024], part);
     }
 }
 
@@ -64,11 +57,8 @@ pub fn put_slot(
 {
     let end = layout.blocks;
     let at = layout.directory + 24 * slot;
-    let wanted = (content.len() + 1023) / 1024;
-    let free = map::free_blocks(image, layout, wanted);
-    let list = free.list;
-    let count = free.count;
-    let chosen = &list[0..count];
+    let free = map::free_blocks(image, layout, content.len().div_ceil(1024));
+    let chosen = free.as_slice();
     write_blocks(image, layout, chosen, content);
     map::link_blocks(image, layout, chosen);
     let start = map::block_of(chosen, 0, end);
@@ -92,8 +82,6 @@ pub fn remove_slot(image: &mut [u8], layout: layout::Layout, slot: usize)
     let size = slots::size_of(image, layout, slot);
     let start = slots::start_of(image, layout, slot);
     let owned = map::chain_blocks(image, layout, (size - 1) / 1024, start);
-    let list = owned.list;
-    let count = owned.count;
-    map::clear_blocks(image, layout, &list[0..count]);
+    map::clear_blocks(image, layout, owned.as_slice());
     blocks::clear(image, at, 22);
 }

@@ -4,18 +4,19 @@
 ghost use Rattle.std.specs.Prelude.{◌≡◌};
 ghost use Rattle.layout.specs.Layouts.{layout_of, s900, s1000, s3000, blocks_of, first_data_of, length_of};
 
-// The sampler whose disk it is.
+// The sampler whose disk it is, with its number.
 #[derive(Clone, Copy, Debug, PartialEq, Eq)]
 pub enum Kind {
-    S900,
-    S1000,
-    S3000,
+    S900 = 900,
+    S1000 = 1000,
+    S3000 = 3000,
 }
 
+// With the number that tells it.
 #[derive(Clone, Copy, Debug, PartialEq, Eq)]
 pub enum Density {
-    Low,
-    High,
+    Low = 0,
+    High = 1,
 }
 
 // What a kind and a density fix (document 01, "The disk"). Every function and every proof above takes these from a

@@ -49,12 +49,13 @@ pub fn page_runs(
     let mut block = start;
     let mut j = 0;
     let mut done = 0;
+    // No range counts these turns: each goes on by a run, and the first and the last may be short.
     while done < count {
         let at = offset + done;
         let next = at / 1024;
         block = map::nth_block(image, layout, links - j, block, next - j, &mut followed);
         j = next;
-        let run = blocks::least(count - done, 1024 - at % 1024);
+        let run = (count - done).min(1024 - at % 1024);
         copy_counted(image, 1024 * block + at % 1024, out, done, run, &mut runs);
         done += run;
     }

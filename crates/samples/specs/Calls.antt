@@ -9,7 +9,7 @@ use Rattle.std.proofs.Math.ListN.{length}
 use Rattle.std.proofs.lemmas.List.Edits.{sets}
 use Rattle.laws.specs.Truth.{pick}
 use Rattle.laws.specs.Lemmas.Refusals.{refused-done}
-use Rattle.laws.specs.Refusals.{Filled, filled, unless}
+use Rattle.laws.specs.Refusals.{Counted, Filled, filled, unless}
 use Rattle.laws.specs.Lemmas.Scan.{nowhere→, →nowhere}
 use Rattle.laws.specs.Splice.{splice, part}
 use Rattle.laws.proofs.Lemmas.Splice.{part-splice}
@@ -37,11 +37,11 @@ unless-done number None output rest count e = (refl, refl, e)
 pub room_enough : (room due : ℕ) → room_fault room due ≡ None → due ≤ room
 room_enough room due e = ltb-false room due (by (ltb room due) e)
   where
-    by : (t : Bool) → pick t (Some 0) None ≡ None → t ≡ false
+    by : (t : Bool) → pick {A = Lowest} t (Some 0) None ≡ None → t ≡ false
     by true e = cc
     by false e = refl
 
-pub done_is : (a b : ℕ) → Ok a ≡ Ok b → a ≡ b
+pub done_is : (a b : ℕ) → ◌≡◌ {A = Counted} (Ok a) (Ok b) → a ≡ b
 done_is a b e = cc
 
 -- ---- the words' range

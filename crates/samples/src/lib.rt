@@ -15,7 +15,7 @@ ghost use Rattle.samples.specs.Samples.{header_size, count_offset, table_of, dat
 use headers::Table;
 use laws::Refusal;
 
-#[derive(Clone, Copy)]
+#[derive(Debug, Clone, Copy, PartialEq, Eq)]
 pub enum Sampler {
     S900,
     S1000,
@@ -33,7 +33,7 @@ fn first_word(pair: u16) -> i16
 fn second_word(upper: u8, pair: u16) -> i16
     ensures { result ≡ word_of 4096 (16 * upper + pair % 16) }
 {
-    words::word::<12>(16 * (upper as u16) + pair % 16)
+    words::word::<12>(16 * u16::from(upper) + pair % 16)
 }
 
 // Fills the first half of the words of S900 data, the second half, and both. A loop for each half has no branch, and a pair of bytes read as one
@@ -42,11 +42,8 @@ fn fill_first(source: &[u8], half: usize, words: &mut [i16])
     requires { (2 * half ≤ length source.now) × (half ≤ length words.old) }
     ensures { words.new ≡ sets words.old 0 (map (word_of 4096) (tab (first_bits (bytes source.now)) 0 half)) }
 {
-    let mut i: usize = 0;
-    while i < half {
-        let word = first_word(blocks::number::<2>(source, 2 * i) as u16);
-        words[i] = word;
-        i += 1;
+    for i in 0..half {
+        words[i] = first_word(blocks::number::<2>(source, 2 * i) as u16);
     }
 }
 
@@ -54,11 +51,9 @@ fn fill_second(source: &[u8], half: usize, words: &mut [i16])
     requires { (3 * half ≤ length source.now) × (2 * half ≤ length words.old) }
     ensures { words.new ≡ sets words.old half (map (word_of 4096) (tab (second_bits (bytes source.now) half) 0 half)) }
 {
-    let mut i: usize = 0;
-    while i < half {
-        let word = second_word(source[2 * half + i], blocks::number::<2>(source, 2 * i) as u16);
-        words[half + i] = word;
-        i += 1;
+    for i in 0..half {
+        let pair = blocks::number::<2>(source, 2 * i) as u16;
+        words[half + i] = second_word(source[2 * half + i], pair);
     }
 }
 
@@ -75,11 +70,8 @@ fn fill1000(source: &[u8], count: usize, words: &mut [i16])
     requires { (2 * count ≤ length source.now) × (count ≤ length words.old) }
     ensures { words.new ≡ sets words.old 0 (unpacked1000 (bytes source.now) count) }
 {
-    let mut i: usize = 0;
-    while i < count {
-        let word = words::word::<16>(blocks::number::<2>(source, 2 * i) as u16);
-        words[i] = word;
-        i += 1;
+    for i in 0..count {
+        words[i] = words::word::<16>(blocks::number::<2>(source, 2 * i) as u16);
     }
 }
 
@@ -103,11 +95,9 @@ fn store_pairs(words: &[i16], half: usize, out: &mut [u8], at: usize)
     requires { (2 * half ≤ length words.now) × (at + 2 * half ≤ length out.old) }
     ensures { out.new ≡ splice out.old at (parts (pair_at words.now half) 0 half) }
 {
-    let mut i: usize = 0;
-    while i < half {
+    for i in 0..half {
         out[at + 2 * i] = low_byte(words[i], words[half + i]);
         out[at + 2 * i + 1] = high_byte(words[i]);
-        i += 1;
     }
 }
 
@@ -115,10 +105,8 @@ fn store_uppers(words: &[i16], half: usize, out: &mut [u8], at: usize)
     requires { (2 * half ≤ length words.now) × (at + half ≤ length out.old) }
     ensures { out.new ≡ splice out.old at (tab (upper_bits words.now half) 0 half) }
 {
-    let mut i: usize = 0;
-    while i < half {
+    for i in 0..half {
         out[at + i] = high_byte(words[half + i]);
-        i += 1;
     }
 }
 
@@ -136,83 +124,97 @@ fn store1000(words: &[i16], out: &mut [u8], at: usize)
     requires { at + 2 * length words.now ≤ length out.old }
     ensures { out.new ≡ splice out.old at (packed1000 words.now) }
 {
-    let count = words.len();
-    let mut i: usize = 0;
-    while i < count {
-        blocks::store::<2>(out, at + 2 * i, words::bits::<16>(words[i]) as usize);
-        i += 1;
+    for (i, &word) in words.iter().enumerate() {
+        blocks::store::<2>(out, at + 2 * i, usize::from(words::bits::<16>(word)));
     }
 }
 
-// ---- by the sampler
+// ---- what differs between the samplers
 
-// The size of a header, where in it the number of words stands, and the table of its rules.
-fn header_size(sampler: Sampler) -> usize
-    ensures { (result ≡ header_size sampler) × (result ≤ 150) }
-{
-    match sampler {
-        Sampler::S900 => 60,
-        Sampler::S1000 => 150,
+impl Sampler {
+    // The size of a header, where in it the number of words stands, and the table of its rules.
+    fn header_size(self) -> usize
+        ensures { (result ≡ header_size self) × (result ≤ 150) }
+    {
+        match self {
+            Sampler::S900 => 60,
+            Sampler::S1000 => 150,
+        }
     }
-}
 
-fn count_offset(sampler: Sampler) -> usize
-    ensures { result ≡ count_offset sampler }
-{
-    match sampler {
-        Sampler::S900 => 16,
-        Sampler::S1000 => 26,
+    fn count_offset(self) -> usize
+        ensures { result ≡ count_offset self }
+    {
+        match self {
+            Sampler::S900 => 16,
+            Sampler::S1000 => 26,
+        }
     }
-}
 
-fn table_of(sampler: Sampler) -> Table
-    ensures { result ≡ table_of sampler }
-{
-    match sampler {
-        Sampler::S900 => Table::Sample900,
-        Sampler::S1000 => Table::Sample1000,
+    fn table(self) -> Table
+        ensures { result ≡ table_of self }
+    {
+        match self {
+            Sampler::S900 => Table::Sample900,
+            Sampler::S1000 => Table::Sample1000,
+        }
     }
-}
 
-// The bytes of so many words, exact for every number that four bytes give, and whether the sampler has that many.
-fn data_size(sampler: Sampler, count: usize) -> usize
-    requires { count < 4294967296 }
-    ensures { (result ≡ data_size sampler count) × (result < 8589934592) }
-{
-    match sampler {
-        Sampler::S900 => count + count / 2,
-        Sampler::S1000 => 2 * count,
+    // The bytes of so many words, exact for every number that four bytes give, and whether the sampler has that many.
+    fn data_size(self, count: usize) -> usize
+        requires { count < 4294967296 }
+        ensures { (result ≡ data_size self count) × (result < 8589934592) }
+    {
+        match self {
+            Sampler::S900 => count + count / 2,
+            Sampler::S1000 => 2 * count,
+        }
     }
-}
 
-fn is_whole(sampler: Sampler, count: usize) -> bool
-    ensures { result ≡ is_whole sampler count }
-{
-    match sampler {
-        Sampler::S900 => count % 2 == 0,
-        Sampler::S1000 => true,
+    fn is_whole(self, count: usize) -> bool
+        ensures { result ≡ is_whole self count }
+    {
+        match self {
+            Sampler::S900 => count % 2 == 0,
+            Sampler::S1000 => true,
+        }
     }
-}
 
-// Fills the words of data.
-fn fill(sampler: Sampler, source: &[u8], count: usize, words: &mut [i16])
-    requires { (data_size sampler count ≤ length source.now) × (count ≤ length words.old) }
-    ensures { words.new ≡ sets words.old 0 (unpacked sampler (bytes source.now) count) }
-{
-    match sampler {
-        Sampler::S900 => fill900(source, count, words),
-        Sampler::S1000 => fill1000(source, count, words),
+    // Fills the words of data.
+    fn fill(self, source: &[u8], count: usize, words: &mut [i16])
+        requires { (data_size self count ≤ length source.now) × (count ≤ length words.old) }
+        ensures { words.new ≡ sets words.old 0 (unpacked self (bytes source.now) count) }
+    {
+        match self {
+            Sampler::S900 => fill900(source, count, words),
+            Sampler::S1000 => fill1000(source, count, words),
+        }
     }
-}
 
-// Stores the data of words from an offset on.
-fn store(sampler: Sampler, words: &[i16], out: &mut [u8], at: usize)
-    requires { at + data_size sampler (length words.now) ≤ length out.old }
-    ensures { out.new ≡ splice out.old at (packed sampler words.now) }
-{
-    match sampler {
-        Sampler::S900 => store900(words, out, at),
-        Sampler::S1000 => store1000(words, out, at),
+    // Stores the data of words from an offset on.
+    fn store(self, words: &[i16], out: &mut [u8], at: usize)
+        requires { at + data_size self (length words.now) ≤ length out.old }
+        ensures { out.new ≡ splice out.old at (packed self words.now) }
+    {
+        match self {
+            Sampler::S900 => store900(words, out, at),
+            Sampler::S1000 => store1000(words, out, at),
+        }
+    }
+
+    // Where refusal 19 finds a fault.
+    fn range_fault(self, words: &[i16]) -> Option<usize>
+        ensures { result ≡ range_fault self words.now }
+    {
+        match self {
+            Sampler::S900 => {
+                if are_short(words) {
+                    return None;
+                }
+                lowest_outside(words)
+            }
+            Sampler::S1000 => None,
+        }
     }
 }
 
@@ -223,47 +225,47 @@ fn count_in(sampler: Sampler, header: &[u8]) -> usize
     requires { length header.now ≡ header_size sampler }
     ensures { Number 4 (bytes header.now) (count_offset sampler) result }
 {
-    blocks::number::<4>(header, count_offset(sampler))
+    blocks::number::<4>(header, sampler.count_offset())
 }
 
 // Whether a number of words is one that the sampler has, and what it makes due is what there is.
 fn is_right(sampler: Sampler, count: usize, there: usize, due: usize) -> bool
     ensures { result ≡ both (is_whole sampler count) (eqb there due) }
 {
-    if is_whole(sampler, count) {
-        return there == due;
-    }
-    false
+    sampler.is_whole(count) && there == due
 }
 
 // Where refusal 18 finds a fault: in a header whose number of words is right or not, in a file, and in a header to pack.
+#[tactic(auto, unfolding(crate::specs::Samples::head_fault))]
 fn head_fault(sampler: Sampler, header: &[u8], right: bool) -> Option<usize>
     ensures { result ≡ head_fault sampler header.now right }
 {
     if right {
-        return headers::fault(header, 0, table_of(sampler));
+        return headers::fault(header, 0, sampler.table());
     }
-    Some(count_offset(sampler))
+    Some(sampler.count_offset())
 }
 
+#[tactic(auto, unfolding(crate::specs::Samples::file_fault))]
 fn file_fault(sampler: Sampler, file: &[u8]) -> Option<usize>
     ensures { result ≡ file_fault sampler file.now }
 {
-    let size = header_size(sampler);
+    let size = sampler.header_size();
     let there = file.len();
     if there < size {
         return Some(0);
     }
     let header = &file[0..size];
     let count = count_in(sampler, header);
-    let due = size + data_size(sampler, count);
+    let due = size + sampler.data_size(count);
     head_fault(sampler, header, is_right(sampler, count, there, due))
 }
 
+#[tactic(auto, unfolding(crate::specs::Samples::header_fault))]
 fn header_fault(sampler: Sampler, header: &[u8], given: usize) -> Option<usize>
     ensures { result ≡ header_fault sampler header.now given }
 {
-    if header.len() != header_size(sampler) {
+    if header.len() != sampler.header_size() {
         return Some(0);
     }
     let count = count_in(sampler, header);
@@ -274,14 +276,9 @@ fn header_fault(sampler: Sampler, header: &[u8], given: usize) -> Option<usize>
 fn are_short(words: &[i16]) -> bool
     ensures { result ≡ all (is_short words.now) 0 (length words.now) }
 {
-    let count = words.len();
     let mut short = true;
-    let mut i: usize = 0;
-    while i < count {
-        if !words::is_short(words[i]) {
-            short = false;
-        }
-        i += 1;
+    for &word in words {
+        short &= words::is_short(word);
     }
     short
 }
@@ -290,31 +287,7 @@ fn are_short(words: &[i16]) -> bool
 fn lowest_outside(words: &[i16]) -> Option<usize>
     ensures { result ≡ lowest (is_outside words.now) 0 (length words.now) }
 {
-    let count = words.len();
-    let mut i: usize = 0;
-    while i < count {
-        if words::is_short(words[i]) {
-            i += 1;
-        } else {
-            return Some(i);
-        }
-    }
-    None
-}
-
-// Where refusal 19 finds a fault.
-fn range_fault(sampler: Sampler, words: &[i16]) -> Option<usize>
-    ensures { result ≡ range_fault sampler words.now }
-{
-    match sampler {
-        Sampler::S900 => {
-            if are_short(words) {
-                return None;
-            }
-            lowest_outside(words)
-        }
-        Sampler::S1000 => None,
-    }
+    words.iter().position(|&word| !words::is_short(word))
 }
 
 // ---- the calls
@@ -323,37 +296,39 @@ fn range_fault(sampler: Sampler, words: &[i16]) -> Option<usize>
 pub fn unpack(sampler: Sampler, file: &[u8], words: &mut [i16]) -> Result<usize, Refusal>
     ensures { filled result words.new ≡ unpack_of sampler file.now words.old }
 {
-    let fault = file_fault(sampler, file);
-    if let Some(place) = fault {
+    if let Some(place) = file_fault(sampler, file) {
         return Err(Refusal::BadSample(place));
     }
-    let size = header_size(sampler);
+    let size = sampler.header_size();
     let count = count_in(sampler, &file[0..size]);
     if words.len() < count {
         return Err(Refusal::OutputTooShort);
     }
-    fill(sampler, &file[size..], count, words);
+    sampler.fill(&file[size..], count, words);
     Ok(count)
 }
 
 // Stores the sample file of a header and words, and gives the file's length.
-pub fn pack(sampler: Sampler, header: &[u8], words: &[i16], out: &mut [u8]) -> Result<usize, Refusal>
+pub fn pack(
+    sampler: Sampler,
+    header: &[u8],
+    words: &[i16],
+    out: &mut [u8],
+) -> Result<usize, Refusal>
     ensures { filled result out.new ≡ pack_of sampler header.now words.now out.old }
 {
-    let fault = header_fault(sampler, header, words.len());
-    if let Some(place) = fault {
+    if let Some(place) = header_fault(sampler, header, words.len()) {
         return Err(Refusal::BadSample(place));
     }
-    let outside = range_fault(sampler, words);
-    if let Some(place) = outside {
+    if let Some(place) = sampler.range_fault(words) {
         return Err(Refusal::WordOutside(place));
     }
-    let size = header_size(sampler);
-    let due = size + data_size(sampler, count_in(sampler, header));
+    let size = sampler.header_size();
+    let due = size + sampler.data_size(count_in(sampler, header));
     if out.len() < due {
         return Err(Refusal::OutputTooShort);
     }
     blocks::copy_part(header, 0, out, 0, size);
-    store(sampler, words, out, size);
+    sampler.store(words, out, size);
     Ok(due)
 }

@@ -30,28 +30,25 @@ use Rattle.calls.specs.Lemmas.Slots.{slot_file, file_above, file_empty, file-use
 use Rattle.skilletjay.specs.Results.{checked_result, listed_result, found_result, paged_result, done_result, changed_result}
 use Rattle.skilletjay.specs.Told.{CTurn, checked, listed, found, paged, placed, removed, salvaged, told_of, refusal_in, checked_in, listed_in, found_in, paged_in, done_in, changed_in, turn_in, CRan, turns_in}
 use Rattle.laws.specs.Refusals.{number_of, place_of}
+use Rattle.laws.specs.Lemmas.Refusals.{numbered, refusal_is}
 
 -- ---- each answer is what the result tells of it
 
-told_refused : (r : Refusal) → Numbered r → refusal_in (number_of r) (place_of r) ≡ some r
-told_refused r h = rw (ne_eqb (number_of r) 0 (λ e. omega (arith, h.some))) refl
-
--- the refusals of an answer are numbered
-abbrev Told_of : Answer → Type 0
-Told_of a = (r : Refusal) → a.refusal ≡ some r → Numbered r
+told_refused : (r : Refusal) → refusal_in (number_of r) (place_of r) ≡ some r
+told_refused r = let n = numbered r in rw (ne_eqb (number_of r) 0 (λ e. omega (arith, n.0)), refusal_is r) refl
 
 module _ (files : Files) where
-  found_back : (j : Judged) → Told_of (finding files j).answer → found_in (found_result (finding files j).answer) ≡ (finding files j).answer
-  found_back (Err r) h = rw (told_refused r (h r refl)) refl
-  found_back (Ok s) h = refl
+  found_back : (j : Judged) → found_in (found_result (finding files j).answer) ≡ (finding files j).answer
+  found_back (Err r) = rw (told_refused r) refl
+  found_back (Ok s) = refl
 
-  placed_back : (next : ℕ → Files) (j : Judged) → Told_of (putting files next j).answer → found_in (found_result (putting files next j).answer) ≡ (putting files next j).answer
-  placed_back next (Err r) h = rw (told_refused r (h r refl)) refl
-  placed_back next (Ok s) h = refl
+  placed_back : (next : ℕ → Files) (j : Judged) → found_in (found_result (putting files next j).answer) ≡ (putting files next j).answer
+  placed_back next (Err r) = rw (told_refused r) refl
+  placed_back next (Ok s) = refl
 
-  removed_back : (next : ℕ → Files) (j : Judged) → Told_of (removing files next j).answer → done_in (done_result (removing files next j).answer) ≡ (removing files next j).answer
-  removed_back next (Err r) h = rw (told_refused r (h r refl)) refl
-  removed_back next (Ok s) h = refl
+  removed_back : (next : ℕ → Files) (j : Judged) → done_in (done_result (removing files next j).answer) ≡ (removing files next j).answer
+  removed_back next (Err r) = rw (told_refused r) refl
+  removed_back next (Ok s) = refl
 
   paged_back : (w : Option File) (offset : ℕ) (out : List ℕ) → paged_in (paged_result (paging files w offset out).answer) ≡ (paging files w offset out).answer
   paged_back none offset out = refl
@@ -94,11 +91,6 @@ module _ (k : Kind) (d : Density) (f n : ℕ) (img : List ℕ) (accepts : check_
           let w : slot_file l img s ≡ file = cc in
           ap (λ (x : File). length x.name) (sym w) ∙ length-name l (layout_right k d) ((view_of l (bytes img)).entry s).area (unfold entry_at in length-tab (bytes img) (slot_offset l s) 16)
 
-  -- the refusals that a call answers are numbered
-  numbered : (c : Call) → Told_of (step_files (shape_of k d) (files_in l img) c).answer
-  unfolding step_image
-  numbered c r e = refusal_numbered img c r (ap (λ (o : Outcome (List ℕ)). o.answer.refusal) (is c) ∙ e)
-
   -- what a result and the lent bytes tell is what the call came to
   by : (c : Call) {a : Answer} {out after : List ℕ} → a ≡ (step_files (shape_of k d) (files_in l img) c).answer → out ≡ (step_files (shape_of k d) (files_in l img) c).output → after ≡ image_after l img c → Made img c a out after
   unfolding step_image
@@ -129,7 +121,7 @@ module _ (k : Kind) (d : Density) (f n : ℕ) (img : List ℕ) (accepts : check_
       let files = files_in l img in
       let j = judge_name l files name type in
       let z : r ≡ found_result (call_of img (find name type)).answer = cc in
-      by (find name type) (ap found_in (z ∙ ap found_result (answer_is (find name type))) ∙ found_back files j (numbered (find name type))) (sym (find_output files j)) refl
+      by (find name type) (ap found_in (z ∙ ap found_result (answer_is (find name type))) ∙ found_back files j) (sym (find_output files j)) refl
   told_made (paged s offset lent r out) e =
       let files = files_in l img in
       let c = page s offset lent in
@@ -142,14 +134,14 @@ module _ (k : Kind) (d : Density) (f n : ℕ) (img : List ℕ) (accepts : check_
       let c = put name type content in
       let z : r ≡ found_result (call_of img c).answer = cc in
       let o : after ≡ (call_of img c).state = cc in
-      by c (ap found_in (z ∙ ap found_result (answer_is c)) ∙ placed_back files _ j (numbered c)) (sym (put_output files _ j)) (o ∙ state_is c)
+      by c (ap found_in (z ∙ ap found_result (answer_is c)) ∙ placed_back files _ j) (sym (put_output files _ j)) (o ∙ state_is c)
   told_made (removed name type r after) e =
       let files = files_in l img in
       let j = judge_name l files name type in
       let c = remove name type in
       let z : r ≡ done_result (call_of img c).answer = cc in
       let o : after ≡ (call_of img c).state = cc in
-      by c (ap done_in (z ∙ ap done_result (answer_is c)) ∙ removed_back files _ j (numbered c)) (sym (remove_output files _ j)) (o ∙ state_is c)
+      by c (ap done_in (z ∙ ap done_result (answer_is c)) ∙ removed_back files _ j) (sym (remove_output files _ j)) (o ∙ state_is c)
   told_made (salvaged lent r report after) e =
       let c = salvage lent in
       let z : r ≡ changed_result (call_of img c).answer = cc in

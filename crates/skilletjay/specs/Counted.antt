@@ -46,32 +46,31 @@ counting_of (blocks img slot out) = blocks_of img slot out
 -- ---- by the refusals
 
 program_kept : (n : ℕ) (short right : Bool) (w : Lowest) → Keeps {A = ℕ} [] (filled (pick short (refused_at 0) (pick right (programAnswer n w) (refused_at 42))) [])
-program_kept n true right w = keeps-refused (refusal_at 20 0) [] (omega arith)
-program_kept n false true (Some place) = keeps-refused (refusal_at 20 place) [] (omega arith)
+program_kept n true right w = keeps-refused (refusal_at 20 0) []
+program_kept n false true (Some place) = keeps-refused (refusal_at 20 place) []
 program_kept n false true None = keeps-done n [] []
-program_kept n false false w = keeps-refused (refusal_at 20 42) [] (omega arith)
+program_kept n false false w = keeps-refused (refusal_at 20 42) []
 
 storing_kept : (bs out : List ℕ) → Keeps out (storing bs out)
-storing_kept [] out = keeps-refused (refusal_at 10 0) out (omega arith)
+storing_kept [] out = keeps-refused (refusal_at 10 0) out
 storing_kept (b ∷ bs) out = go (ltb (length out) (length (b ∷ bs))) refl
   where
     go : (t : Bool) → ltb (length out) (length (b ∷ bs)) ≡ t → Keeps out (storing (b ∷ bs) out)
-    go true e = rw e (keeps-refused (refusal_at 21 0) out (omega arith))
+    go true e = rw e (keeps-refused (refusal_at 21 0) out)
     go false e = rw e (keeps-done (length (b ∷ bs)) out _)
 
 blocks_kept : (img : List ℕ) (s : ℕ) (out : List ℕ) (w : Checked) → check_of img ≡ w → Keeps out (blocks_by w img s out)
 blocks_kept img s out (Ok disk) e = storing_kept (file_blocks (layout_of disk.kind disk.density) img s) out
-blocks_kept img s out (Err r) e =
-    keeps-refused r out (refusal_numbered img check r (ap (λ (a : Answer). a.refusal) (check_call img) ∙ ap (λ (c : Checked). (answer_of c).refusal) e)).some
+blocks_kept img s out (Err r) e = keeps-refused r out
 
 -- A refused call leaves its output as it was lent, and its number isn't 0.
 pub counting_kept : (c : Counting) → Keeps (lent_to c) (counting_of c)
 unfolding unpack_of pack_of program_of blocks_of
 counting_kept (unpack sampler file words) =
-    keeps-unless 18 (file_fault sampler file) words _ (omega arith) (keeps-unless 21 (room_fault (length words) _) words _ (omega arith) (keeps-done _ words _))
+    keeps-unless 18 (file_fault sampler file) words _ (keeps-unless 21 (room_fault (length words) _) words _ (keeps-done _ words _))
 counting_kept (pack sampler header words out) =
-    keeps-unless 18 (header_fault sampler header (length words)) out _ (omega arith)
-    (keeps-unless 19 (range_fault sampler words) out _ (omega arith) (keeps-unless 21 (room_fault (length out) _) out _ (omega arith) (keeps-done _ out _)))
+    keeps-unless 18 (header_fault sampler header (length words)) out _
+    (keeps-unless 19 (range_fault sampler words) out _ (keeps-unless 21 (room_fault (length out) _) out _ (keeps-done _ out _)))
 counting_kept (program file) =
     let n = keygroups_of file in program_kept n (ltb (length file) 150) (counted file n) (parts_fault file 0 (n + 1))
 counting_kept (blocks img slot out) = blocks_kept img slot out (check_of img) refl

@@ -6,7 +6,7 @@ use Rattle.layout.specs.declared.Kind.{Kind}
 use Rattle.layout.specs.declared.Density.{Density}
 use Rattle.record.specs.Record.{Answer, number_in, place_or, kind_number, density_number}
 use Rattle.rules.specs.Check.{answer_of, Checked, accepting}
-use Rattle.calls.specs.Answers.{counted_of}
+use Rattle.calls.specs.Answers.{found_of}
 use Rattle.skilletjay.specs.declared.CChecked.{CChecked}
 use Rattle.skilletjay.specs.declared.CListed.{CListed}
 use Rattle.skilletjay.specs.declared.CFound.{CFound}
@@ -52,6 +52,6 @@ counted_result (Ok count) = record { refusal = 0; place = 0; count = count }
 counted_result (Err r) = record { refusal = number_of r; place = place_of r; count = 0 }
 
 -- the two agree
-pub changed_counted : (c : Counted) → counted_result c ≡ changed_result (counted_of c)
+pub changed_counted : (c : Counted) → counted_result c ≡ changed_result (found_of c)
 changed_counted (Ok count) = refl
 changed_counted (Err r) = refl

@@ -2,15 +2,13 @@
 #![tactic(auto)]
 
 ghost use Rattle.std.specs.Prelude.{◌≡◌};
-ghost use Rattle.record.specs.Record.{check, list, find, page, put, remove, salvage, kind_number, density_number};
-ghost use Rattle.rules.specs.Check.{answer_of};
-ghost use Rattle.calls.specs.Answers.{found_of, paged_of, listed_of, removed_of, name_in};
+ghost use Rattle.record.specs.Record.{check, list, find, page, put, remove, salvage};
 ghost use Rattle.locate.specs.Locate.{blocks_of};
 ghost use Rattle.session.specs.Script.{after_run, run_of};
 ghost use Rattle.samples.specs.Samples.{unpack_of, pack_of};
 ghost use Rattle.program.specs.Program.{program_of};
 ghost use Rattle.skilletjay.specs.Told.{told_of, checked, listed, found, paged, placed, removed, salvaged};
-ghost use Rattle.skilletjay.specs.Results.{checked_result, listed_with, found_result, paged_result, done_result, counted_result};
+ghost use Rattle.skilletjay.specs.Results.{counted_result};
 
 use calls::{Entry, Piece};
 use laws::Refusal;
@@ -76,145 +74,159 @@ pub struct CCounted {
     pub count: usize,
 }
 
-// C's number for a kind.
-fn kind_number(kind: layout::Kind) -> u32
-    ensures { result ≡ kind_number kind }
-{
-    match kind {
-        layout::Kind::S900 => 900,
-        layout::Kind::S1000 => 1000,
-        layout::Kind::S3000 => 3000,
-    }
-}
-
-// C's number for a density.
-fn density_number(density: layout::Density) -> u32
-    ensures { result ≡ density_number density }
-{
-    match density {
-        layout::Density::Low => 0,
-        layout::Density::High => 1,
-    }
-}
-
 // What C gets of the check.
-fn checked_result(checked: Result<Accepted, Refusal>) -> CChecked
-    ensures { result ≡ checked_result (answer_of checked) }
-{
-    match checked {
-        Ok(disk) => CChecked {
-            refusal: 0,
-            place: 0,
-            kind: kind_number(disk.kind),
-            density: density_number(disk.density),
-            files: disk.files,
-            free: disk.free,
-        },
-        Err(refusal) => CChecked {
-            refusal: refusal.number(),
-            place: refusal.place(),
-            kind: 0,
-            density: 0,
-            files: 0,
-            free: 0,
-        },
+impl From<Result<Accepted, Refusal>> for CChecked {
+    ghost use Rattle.std.specs.Prelude.{◌≡◌};
+    ghost use Rattle.rules.specs.Check.{answer_of};
+    ghost use Rattle.skilletjay.specs.Results.{checked_result};
+
+    ghost from_gives = { λ checked told. told ≡ checked_result (answer_of checked) };
+
+    fn from(checked: Result<Accepted, Refusal>) -> CChecked {
+        match checked {
+            Ok(disk) => CChecked {
+                refusal: 0,
+                place: 0,
+                kind: disk.kind as u32,
+                density: disk.density as u32,
+                files: disk.files,
+                free: disk.free,
+            },
+            Err(refusal) => CChecked {
+                refusal: refusal.number(),
+                place: refusal.place(),
+                kind: 0,
+                density: 0,
+                files: 0,
+                free: 0,
+            },
+        }
     }
 }
 
 // What C gets of a listing. Its 12 bytes are zeros but for the name (`Lists`).
-fn listed_result(listed: Result<Entry, Refusal>) -> CListed
-    ensures { result ≡ listed_with (listed_of listed) (name_in listed) }
-{
-    match listed {
-        Ok(entry) => {
-            let name = entry.name;
-            CListed {
-                refusal: 0,
-                place: 0,
-                name,
-                letter: entry.letter,
-                length: entry.length,
+impl From<Result<Entry, Refusal>> for CListed {
+    ghost use Rattle.std.specs.Prelude.{◌≡◌};
+    ghost use Rattle.calls.specs.Answers.{listed_of, name_in};
+    ghost use Rattle.skilletjay.specs.Results.{listed_with};
+
+    ghost from_gives = { λ listed told. told ≡ listed_with (listed_of listed) (name_in listed) };
+
+    fn from(listed: Result<Entry, Refusal>) -> CListed {
+        match listed {
+            Ok(entry) => {
+                let name = entry.name;
+                CListed {
+                    refusal: 0,
+                    place: 0,
+                    name,
+                    letter: entry.letter,
+                    length: entry.length,
+                }
             }
+            Err(refusal) => CListed {
+                refusal: refusal.number(),
+                place: refusal.place(),
+                name: [0; 12],
+                letter: 0,
+                length: 0,
+            },
         }
-        Err(refusal) => CListed {
-            refusal: refusal.number(),
-            place: refusal.place(),
-            name: [0; 12],
-            letter: 0,
-            length: 0,
-        },
     }
 }
 
 // What C gets of a find or a put.
-fn found_result(found: Result<usize, Refusal>) -> CFound
-    ensures { result ≡ found_result (found_of found) }
-{
-    match found {
-        Ok(slot) => CFound {
-            refusal: 0,
-            place: 0,
-            slot,
-        },
-        Err(refusal) => CFound {
-            refusal: refusal.number(),
-            place: refusal.place(),
-            slot: 0,
-        },
+impl From<Result<usize, Refusal>> for CFound {
+    ghost use Rattle.std.specs.Prelude.{◌≡◌};
+    ghost use Rattle.calls.specs.Answers.{found_of};
+    ghost use Rattle.skilletjay.specs.Results.{found_result};
+
+    ghost from_gives = { λ found told. told ≡ found_result (found_of found) };
+
+    fn from(found: Result<usize, Refusal>) -> CFound {
+        match found {
+            Ok(slot) => CFound {
+                refusal: 0,
+                place: 0,
+                slot,
+            },
+            Err(refusal) => CFound {
+                refusal: refusal.number(),
+                place: refusal.place(),
+                slot: 0,
+            },
+        }
     }
 }
 
 // What C gets of a page.
-fn paged_result(paged: Result<Piece, Refusal>) -> CPaged
-    ensures { result ≡ paged_result (paged_of paged) }
-{
-    match paged {
-        Ok(piece) => CPaged {
-            refusal: 0,
-            place: 0,
-            count: piece.count,
-            end: piece.end,
-        },
-        Err(refusal) => CPaged {
-            refusal: refusal.number(),
-            place: refusal.place(),
-            count: 0,
-            end: false,
-        },
+impl From<Result<Piece, Refusal>> for CPaged {
+    ghost use Rattle.std.specs.Prelude.{◌≡◌};
+    ghost use Rattle.calls.specs.Answers.{paged_of};
+    ghost use Rattle.skilletjay.specs.Results.{paged_result};
+
+    ghost from_gives = { λ paged told. told ≡ paged_result (paged_of paged) };
+
+    fn from(paged: Result<Piece, Refusal>) -> CPaged {
+        match paged {
+            Ok(piece) => CPaged {
+                refusal: 0,
+                place: 0,
+                count: piece.count,
+                end: piece.end,
+            },
+            Err(refusal) => CPaged {
+                refusal: refusal.number(),
+                place: refusal.place(),
+                count: 0,
+                end: false,
+            },
+        }
     }
 }
 
 // What C gets of a remove.
-fn done_result(removed: Result<(), Refusal>) -> CDone
-    ensures { result ≡ done_result (removed_of removed) }
-{
-    match removed {
-        Ok(()) => CDone {
-            refusal: 0,
-            place: 0,
-        },
-        Err(refusal) => CDone {
-            refusal: refusal.number(),
-            place: refusal.place(),
-        },
+impl From<Result<(), Refusal>> for CDone {
+    ghost use Rattle.std.specs.Prelude.{◌≡◌};
+    ghost use Rattle.calls.specs.Answers.{removed_of};
+    ghost use Rattle.skilletjay.specs.Results.{done_result};
+
+    ghost from_gives = { λ removed told. told ≡ done_result (removed_of removed) };
+
+    fn from(removed: Result<(), Refusal>) -> CDone {
+        match removed {
+            Ok(()) => CDone {
+                refusal: 0,
+                place: 0,
+            },
+            Err(refusal) => CDone {
+                refusal: refusal.number(),
+                place: refusal.place(),
+            },
+        }
     }
 }
 
 // What C gets of a call that gives a count.
-fn counted_result(counted: Result<usize, Refusal>) -> CCounted
-    ensures { result ≡ counted_result counted }
-{
-    match counted {
-        Ok(count) => CCounted {
-            refusal: 0,
-            place: 0,
-            count,
-        },
-        Err(refused) => CCounted {
-            refusal: refused.number(),
-            place: refused.place(),
-            count: 0,
-        },
+impl From<Result<usize, Refusal>> for CCounted {
+    ghost use Rattle.std.specs.Prelude.{◌≡◌};
+    ghost use Rattle.skilletjay.specs.Results.{counted_result};
+
+    ghost from_gives = { λ counted told. told ≡ counted_result counted };
+
+    fn from(counted: Result<usize, Refusal>) -> CCounted {
+        match counted {
+            Ok(count) => CCounted {
+                refusal: 0,
+                place: 0,
+                count,
+            },
+            Err(refused) => CCounted {
+                refusal: refused.number(),
+                place: refused.place(),
+                count: 0,
+            },
+        }
     }
 }
 
@@ -222,21 +234,21 @@ fn counted_result(counted: Result<usize, Refusal>) -> CCounted
 pub fn sj_check(image: &[u8]) -> CChecked
     ensures { checked result ≡ told_of image.now check }
 {
-    checked_result(disk::check(image))
+    CChecked::from(disk::check(image))
 }
 
 // What a slot holds: refusals 1 to 9, then 10 if it is empty or not there. The image is lent and kept.
 pub fn sj_list(image: &[u8], slot: usize) -> CListed
     ensures { listed slot result ≡ told_of image.now (list slot) }
 {
-    listed_result(calls::list(image, slot))
+    CListed::from(calls::list(image, slot))
 }
 
 // The slot of the file with a name and a type: refusals 1 to 9, then 11, then 10. Image and name are lent and kept.
 pub fn sj_find(image: &[u8], name: &[u8], letter: u8) -> CFound
     ensures { found name.now letter result ≡ told_of image.now (find name.now letter) }
 {
-    found_result(calls::find(image, name, letter))
+    CFound::from(calls::find(image, name, letter))
 }
 
 // A file's bytes from an offset on, to the output's front: refusals 1 to 9, then 10, then 17. The image is lent and kept; the output's other
@@ -244,7 +256,7 @@ pub fn sj_find(image: &[u8], name: &[u8], letter: u8) -> CFound
 pub fn sj_page(image: &[u8], slot: usize, offset: usize, out: &mut [u8]) -> CPaged
     ensures { paged slot offset out.old result out.new ≡ told_of image.now (page slot offset out.old) }
 {
-    paged_result(calls::page(image, slot, offset, out))
+    CPaged::from(calls::page(image, slot, offset, out))
 }
 
 // The blocks that hold a slot's file, in order, to the output's front, and how many they are: refusals 1 to 9, then 10, then 21. The image is
@@ -253,7 +265,7 @@ pub fn sj_blocks(image: &[u8], slot: usize, out: &mut [u16]) -> CCounted
     ensures answer { result ≡ counted_result (blocks_of image.now slot out.old).answer }
     ensures output { out.new ≡ (blocks_of image.now slot out.old).output }
 {
-    counted_result(locate::file_blocks(image, slot, out))
+    CCounted::from(locate::file_blocks(image, slot, out))
 }
 
 // Puts a file: its slot is the lowest empty one, its blocks the lowest free ones. Refusals 1 to 9, then 11, 13, 12 at the slot that has
@@ -261,14 +273,14 @@ pub fn sj_blocks(image: &[u8], slot: usize, out: &mut [u16]) -> CCounted
 pub fn sj_put(image: &mut [u8], name: &[u8], letter: u8, content: &[u8]) -> CFound
     ensures { placed name.now letter content.now result image.new ≡ told_of image.old (put name.now letter content.now) }
 {
-    found_result(calls::put(image, name, letter, content))
+    CFound::from(calls::put(image, name, letter, content))
 }
 
 // Removes the file with a name and a type: refusals 1 to 9, then 11, then 10. The name is lent and kept; so is the image on a refusal.
 pub fn sj_remove(image: &mut [u8], name: &[u8], letter: u8) -> CDone
     ensures { removed name.now letter result image.new ≡ told_of image.old (remove name.now letter) }
 {
-    done_result(calls::remove(image, name, letter))
+    CDone::from(calls::remove(image, name, letter))
 }
 
 // Mends an image in place, says of each slot what became of it, and gives how many map values are others: refusals 1 and 2, then 21. The report's bytes
@@ -276,7 +288,7 @@ pub fn sj_remove(image: &mut [u8], name: &[u8], letter: u8) -> CDone
 pub fn sj_salvage(image: &mut [u8], report: &mut [u8]) -> CCounted
     ensures { salvaged report.old result report.new image.new ≡ told_of image.old (salvage report.old) }
 {
-    counted_result(calls::salvage(image, report))
+    CCounted::from(calls::salvage(image, report))
 }
 
 // Makes the calls of a script one after another, and gives how many were made. Script and pool are lent and kept; each call's reply and page
@@ -293,33 +305,33 @@ pub fn sj_s900_unpack(file: &[u8], words: &mut [i16]) -> CCounted
     ensures answer { result ≡ counted_result (unpack_of Sampler.S900 file.now words.old).answer }
     ensures output { words.new ≡ (unpack_of Sampler.S900 file.now words.old).output }
 {
-    counted_result(samples::unpack(Sampler::S900, file, words))
+    CCounted::from(samples::unpack(Sampler::S900, file, words))
 }
 
 pub fn sj_s900_pack(header: &[u8], words: &[i16], out: &mut [u8]) -> CCounted
     ensures answer { result ≡ counted_result (pack_of Sampler.S900 header.now words.now out.old).answer }
     ensures output { out.new ≡ (pack_of Sampler.S900 header.now words.now out.old).output }
 {
-    counted_result(samples::pack(Sampler::S900, header, words, out))
+    CCounted::from(samples::pack(Sampler::S900, header, words, out))
 }
 
 pub fn sj_s1000_unpack(file: &[u8], words: &mut [i16]) -> CCounted
     ensures answer { result ≡ counted_result (unpack_of Sampler.S1000 file.now words.old).answer }
     ensures output { words.new ≡ (unpack_of Sampler.S1000 file.now words.old).output }
 {
-    counted_result(samples::unpack(Sampler::S1000, file, words))
+    CCounted::from(samples::unpack(Sampler::S1000, file, words))
 }
 
 pub fn sj_s1000_pack(header: &[u8], words: &[i16], out: &mut [u8]) -> CCounted
     ensures answer { result ≡ counted_result (pack_of Sampler.S1000 header.now words.now out.old).answer }
     ensures output { out.new ≡ (pack_of Sampler.S1000 header.now words.now out.old).output }
 {
-    counted_result(samples::pack(Sampler::S1000, header, words, out))
+    CCounted::from(samples::pack(Sampler::S1000, header, words, out))
 }
 
 // The number of keygroups of an S1000 program file: refusal 20. The file is lent and kept.
 pub fn sj_program(file: &[u8]) -> CCounted
     ensures { result ≡ counted_result (program_of file.now) }
 {
-    counted_result(program::check(file))
+    CCounted::from(program::check(file))
 }

@@ -1,9 +1,9 @@
 -- `changes::put_slot` meets its contract: the blocks lent to each step are the lowest free ones, as many as the content needs.
 -- They are collected before the image changes, so every step says what it does to the same list of blocks. Assumes nothing.
-use Rattle.std.proofs.Common.{◌≡◌, refl, sym, ap, ◌∙◌, List, ℕ, ◌-◌, ◌<◌, arith, length, take, drop, get_or, length-take-le}
+use Rattle.std.proofs.Common.{◌≡◌, refl, sym, ap, ◌∙◌, List, ℕ, ◌-◌, ◌<◌, arith, length, take, get_or, length-take-le}
 use Rattle.blocks.specs.Blocks.{blocks_for, write_blocks}
 use Rattle.changes.specs.Changes.{entry_with, put_area, Puttable}
-use Rattle.changes.specs.Lemmas.Lent.{count_fits, lent-all}
+use Rattle.changes.specs.Lemmas.Lent.{slice-all}
 use Rattle.image.specs.Image.{set_entry, fill_blocks, chosen}
 use Rattle.laws.specs.Lemmas.Member.{in_take}
 use Rattle.laws.specs.Member.{In}
@@ -13,7 +13,9 @@ use Rattle.layout.specs.Right.{LayoutRight}
 use Rattle.layout.specs.declared.Layout.{Layout}
 use Rattle.map.specs.Lemmas.Free.{in_free}
 use Rattle.map.specs.Lemmas.Linking.{first_there}
-use Rattle.map.specs.Map.{map_at, free_blocks, link_blocks}
+use Rattle.map.specs.Map.{map_at, free_blocks, link_blocks, Collected}
+use Rattle.std.specs.Int.{div_ceil}
+use Rattle.map.specs.declared.collection.Blocks.{Blocks}
 use Rattle.changes.proofs.put_slot.Goals as goal
 
 free_below : (l : Layout) (m : ℕ → ℕ) (n b : ℕ) → LayoutRight l → In b (take n (free_blocks l m)) → b < l.blocks
@@ -27,16 +29,18 @@ record Lent (l : Layout) (img content lent : List ℕ) : Type 0 where
   some : 0 < length lent
   below : (b : ℕ) → In b lent → b < l.blocks
 
-lent_of : (l : Layout) (img : List ℕ) (s : ℕ) (content : List ℕ) {lent : List ℕ} → Puttable l img s content → lent ≡ take (blocks_for (length content)) (free_blocks l (map_at (bytes img)))
-    → Lent l img content lent
-lent_of l img s content {lent} p e =
-    let n = blocks_for (length content) in
-    let count : length lent ≡ n = ap length e ∙ length-take-le n (free_blocks l (map_at (bytes img))) p.room in
+lent_of : (l : Layout) (img : List ℕ) (s : ℕ) (content : List ℕ) (r : Blocks) {n : ℕ} {lent : List ℕ} → Puttable l img s content → n ≡ div_ceil (length content) 1024
+    → Collected (take n (free_blocks l (map_at (bytes img)))) r → lent ≡ take r.count r.list → Lent l img content lent
+lent_of l img s content r {n} {lent} p wanted found e =
+    let m = map_at (bytes img) in
+    let enough : n ≡ blocks_for (length content) = wanted ∙ omega arith in
+    let same : lent ≡ take (blocks_for (length content)) (free_blocks l m) = e ∙ slice-all _ r found ∙ ap (λ (k : ℕ). take k (free_blocks l m)) enough in
+    let count : length lent ≡ blocks_for (length content) = ap length same ∙ length-take-le (blocks_for (length content)) (free_blocks l m) p.room in
     record {
-      same = e;
+      same = same;
       count = count;
       some = omega (arith, p.some_content);
-      below = λ b i. free_below l (map_at (bytes img)) n b p.right (rw e at i);
+      below = λ b i. free_below l m (blocks_for (length content)) b p.right (rw same at i);
     }
 
 -- what is left once they are written and linked and the entry names the first
@@ -46,27 +50,24 @@ left : (l : Layout) (img : List ℕ) (s : ℕ) (area : List ℕ) (type : ℕ) (c
 unfolding put_area fill_blocks chosen
 left l img s area type content {lent} k p q r t = rw (t, q, p, r, ← first_there lent 0 0 k.some, k.same) refl
 
-pub slice_bounds-chosen-end : goal.slice_bounds-chosen-end
-slice_bounds-chosen-end c = count_fits _ c.free_blocks-free.result c.free_blocks-free.ensures
-
 pub write_blocks-requires : goal.write_blocks-requires
 write_blocks-requires c =
-    let found : (Lent c.args.layout c.args.image.now c.args.content.now (take (c.free_blocks-free.result.count - 0) (drop 0 c.free_blocks-free.result.list))) = lent_of c.args.layout c.args.image.now c.args.slot c.args.content.now c.requires (lent-all _ c.free_blocks-free.result c.free_blocks-free.ensures) in
+    let found = lent_of c.args.layout c.args.image.now c.args.slot c.args.content.now c.free_blocks-free.result c.requires c.div_ceil.ensures c.free_blocks-free.ensures c.as_slice-chosen.ensures in
     (c.requires.whole, c.requires.right.blocks_most, found.below, sym found.count)
 
 pub link_blocks-requires : goal.link_blocks-requires
 link_blocks-requires c =
-    let found : (Lent c.args.layout c.args.image.now c.args.content.now (take (c.free_blocks-free.result.count - 0) (drop 0 c.free_blocks-free.result.list))) = lent_of c.args.layout c.args.image.now c.args.slot c.args.content.now c.requires (lent-all _ c.free_blocks-free.result c.free_blocks-free.ensures) in
+    let found = lent_of c.args.layout c.args.image.now c.args.slot c.args.content.now c.free_blocks-free.result c.requires c.div_ceil.ensures c.free_blocks-free.ensures c.as_slice-chosen.ensures in
     (omega (arith, c.write_blocks.auto, c.requires.whole, c.requires.right.map-low, c.requires.right.data_some), found.below)
 
 pub block_of-start-requires : goal.block_of-start-requires
 block_of-start-requires c =
-    let found : (Lent c.args.layout c.args.image.now c.args.content.now (take (c.free_blocks-free.result.count - 0) (drop 0 c.free_blocks-free.result.list))) = lent_of c.args.layout c.args.image.now c.args.slot c.args.content.now c.requires (lent-all _ c.free_blocks-free.result c.free_blocks-free.ensures) in
+    let found = lent_of c.args.layout c.args.image.now c.args.slot c.args.content.now c.free_blocks-free.result c.requires c.div_ceil.ensures c.free_blocks-free.ensures c.as_slice-chosen.ensures in
     (found.some, found.below)
 
 pub returns : goal.returns
 returns c =
-    let found : (Lent c.args.layout c.args.image.now c.args.content.now (take (c.free_blocks-free.result.count - 0) (drop 0 c.free_blocks-free.result.list))) = lent_of c.args.layout c.args.image.now c.args.slot c.args.content.now c.requires (lent-all _ c.free_blocks-free.result c.free_blocks-free.ensures) in
+    let found = lent_of c.args.layout c.args.image.now c.args.slot c.args.content.now c.free_blocks-free.result c.requires c.div_ceil.ensures c.free_blocks-free.ensures c.as_slice-chosen.ensures in
     let a = c.args in
     left a.layout a.image.now a.slot a.area a.letter a.content.now found c.write_blocks.ensures c.link_blocks.ensures
     c.block_of-start.ensures.0 c.write_entry.ensures

@@ -1,8 +1,8 @@
 -- `changes::remove_slot` meets its contract: the blocks freed are the entry's chain, and the 22 bytes cleared are the slot's before its identity.
 -- The chain is collected before the map changes, so the blocks lent are those of the image as it came. Assumes nothing.
-use Rattle.std.proofs.Common.{◌≡◌, refl, List, ℕ, arith, replicate}
+use Rattle.std.proofs.Common.{◌≡◌, ◌∙◌, refl, List, ℕ, arith, replicate}
 use Rattle.blocks.specs.Blocks.{links_for}
-use Rattle.changes.specs.Lemmas.Lent.{count_fits, lent-all}
+use Rattle.changes.specs.Lemmas.Lent.{slice-all}
 use Rattle.image.specs.Image.{view_of, erase_entry, remove_image}
 use Rattle.laws.specs.Reader.{bytes}
 use Rattle.laws.specs.Splice.{splice}
@@ -24,25 +24,15 @@ erased : (l : Layout) (img : List ℕ) (s : ℕ) {size start : ℕ} {lent one tw
 unfolding remove_image erase_entry entry_chain
 erased l img s p q e f g = rw (g, f, e, p, q) refl
 
-pub chain_blocks-owned-requires : goal.chain_blocks-owned-requires
-chain_blocks-owned-requires c = (
-  omega (arith, c.requires.0.map-low, c.requires.0.data_some, c.requires.1),
-  c.requires.0,
-  chained c.args.layout c.args.image.now c.args.slot c.size_of-size.ensures c.start_of-start.ensures c.requires.4,
-)
-
-pub slice_bounds-clear_blocks-end : goal.slice_bounds-clear_blocks-end
-slice_bounds-clear_blocks-end c = count_fits _ c.chain_blocks-owned.result c.chain_blocks-owned.ensures
-
 pub clear_blocks-requires : goal.clear_blocks-requires
 clear_blocks-requires c =
     let whole = chained c.args.layout c.args.image.now c.args.slot c.size_of-size.ensures c.start_of-start.ensures c.requires.4 in (
       omega (arith, c.requires.0.map-low, c.requires.0.data_some, c.requires.1),
-      λ b i. (chain_data c.args.layout c.requires.0 (map_at (bytes c.args.image.now)) _ _ b whole (rw (lent-all _ c.chain_blocks-owned.result c.chain_blocks-owned.ensures) at i)).1,
+      λ b i. (chain_data c.args.layout c.requires.0 (map_at (bytes c.args.image.now)) _ _ b whole (rw (c.as_slice.ensures ∙ slice-all _ c.chain_blocks-owned.result c.chain_blocks-owned.ensures) at i)).1,
     )
 
 pub returns : goal.returns
 returns c =
-    let lent = lent-all _ c.chain_blocks-owned.result c.chain_blocks-owned.ensures in
+    let lent = c.as_slice.ensures ∙ slice-all _ c.chain_blocks-owned.result c.chain_blocks-owned.ensures in
     erased c.args.layout c.args.image.now c.args.slot c.size_of-size.ensures c.start_of-start.ensures lent
     c.clear_blocks.ensures c.clear.ensures

@@ -1,27 +1,41 @@
 -- `changes::write_blocks` meets its contract: writing what remains of the content to what remains of the blocks makes what writing all of it makes.
 -- Each turn lends one block's part, which comes back as a splice of the content's next 1,024 bytes and zeros. Assumes nothing.
-use Rattle.std.proofs.Common.{◌≡◌, refl, sym, ap, ◌∙◌, List, ◌++◌, ℕ, ◌+◌, ◌-◌, ◌*◌, ◌≤◌, ◌<◌, min, add-one, arith, length, take, drop, get_or, drop_of_length-le, drop-cons, drop-drop}
+use Rattle.std.proofs.Common.{◌≡◌, refl, sym, ap, ◌∙◌, inl, inr, ⊎_elim, List, [], ◌∷◌, ◌++◌, ℕ, ◌+◌, ◌-◌, ◌*◌, ◌≤◌, ◌<◌, min, arith, length, take, drop, append-nil, take_all, drop_of_length-le, length-append}
+use Rattle.std.proofs.Math.Decide.{dec_lt}
+use Rattle.std.proofs.Math.Seq.{take_at, drop_at}
+use Rattle.std.specs.Iterator.Adapters.{zip_first, zip_second}
+use Rattle.std.specs.Slice.Iter.{iter_rest, chunks_rest, chunks_size}
 use Rattle.blocks.specs.Blocks.{write_blocks}
-use Rattle.laws.specs.Lemmas.Clip.{part_clip}
 use Rattle.laws.specs.Lemmas.Padded.{length-padded}
-use Rattle.laws.specs.Lemmas.Splice.{length-splice, lent_back, length-lent}
+use Rattle.laws.specs.Lemmas.Splice.{lent_back, length-lent}
+use Rattle.laws.specs.Member.{In}
 use Rattle.laws.specs.Padded.{padded}
 use Rattle.laws.specs.Splice.{splice}
 use Rattle.changes.proofs.write_blocks.Goals as goal
 
--- no block remains
-write_end : (img ks content : List ℕ) (k : ℕ) → length ks ≤ k → write_blocks img (drop k ks) (drop (1024 * k) content) ≡ img
-unfolding write_blocks
-write_end img ks content k h = rw (drop_of_length-le ks h)
+-- the first 1,024 bytes of a content, or all of a shorter one, and what remains
+front : (part rest : List ℕ) → length part ≡ min 1024 (length (part ++ rest)) → (take 1024 (part ++ rest) ≡ part) × (drop 1024 (part ++ rest) ≡ rest)
+front part rest n = go (dec_lt (length part) 1024) rest n
+  where
+    go : Dec (length part < 1024) → (rest : List ℕ) → length part ≡ min 1024 (length (part ++ rest)) → (take 1024 (part ++ rest) ≡ part) × (drop 1024 (part ++ rest) ≡ rest)
+    go (yes h) [] n = let short : length part ≤ 1024 = omega arith in rw (append-nil part) (take_all 1024 part short, drop_of_length-le part short)
+    go (yes h) (b ∷ bs) n = absurd (omega (arith, length-append part (b ∷ bs)))
+    go (no h) bs n =
+        let e : length part ≡ 1024 = omega (arith, length-append part bs) in (take_at part bs 1024 e, drop_at part bs 1024 e)
 
--- one block more, with the bytes of the content up to `to`
-write_next : (img ks content : List ℕ) (k to : ℕ) → k < length ks → 1024 * k ≤ length content → to ≡ min (length content) (1024 * k + 1024)
-    → write_blocks img (drop k ks) (drop (1024 * k) content)
-    ≡ write_blocks (splice img (1024 * get_or ks k 0) (padded (take (to - 1024 * k) (drop (1024 * k) content)) 1024)) (drop (k + 1) ks) (drop (1024 * (k + 1)) content)
+-- one block more, with the content's next part
+write_next : (img : List ℕ) (k : ℕ) (part ks left content rest : List ℕ) → ks ≡ k ∷ left → content ≡ part ++ rest → length part ≡ min 1024 (length content)
+    → write_blocks img ks content ≡ write_blocks (splice img (1024 * k) (padded part 1024)) left rest
 unfolding write_blocks
-write_next img ks content k to h j e =
-    let n : 1024 * (k + 1) ≡ 1024 * k + 1024 = omega arith in
-    rw (drop-cons ks k 0 h, n, part_clip content (1024 * k) 1024 to e j, ← drop-drop 1024 (1024 * k) content, add-one)
+write_next img k part ks left content rest e f n =
+    let p = front part rest (n ∙ ap (λ (xs : List ℕ). min 1024 (length xs)) f) in
+    rw (e, f, p.0, p.1) refl
+
+-- no block remains
+write_end : (img ks content : List ℕ) → length ks ≡ 0 → write_blocks img ks content ≡ img
+unfolding write_blocks
+write_end img [] content h = refl
+write_end img (k ∷ ks) content h = absurd (omega arith)
 
 -- what a block's lent part leaves of the whole, where the block writer says what it wrote
 block_back : (img : List ℕ) (at : ℕ) (bytes : List ℕ) {ys : List ℕ} → at + 1024 ≤ length img → length bytes ≤ 1024
@@ -31,28 +45,51 @@ block_back img at bytes h k w =
     let n : length (take (at + 1024 - at) (drop at img)) ≡ 1024 = length-lent img at (at + 1024) h ∙ omega arith in
     lent_back img at (at + 1024) (padded bytes 1024) (omega arith) h (length-padded bytes 1024 k ∙ omega arith) (w ∙ rw n)
 
-pub loop-k-init : goal.loop-k-init
-loop-k-init c = (omega arith, refl, refl)
+-- a block is one of those that remain
+first_below : (k end : ℕ) (ks left : List ℕ) → ks ≡ k ∷ left → ((b : ℕ) → In b ks → b < end) → k < end
+first_below k end ks left e h = (rw e at h) k (inl refl)
 
-pub block_of-at-requires : goal.block_of-at-requires
-block_of-at-requires c = (omega arith, c.requires.2)
+pub loop-block-init : goal.loop-block-init
+loop-block-init c =
+    let size : chunks_size (zip_second c.into_iter-block-iterator.result) ≡ 1024 = cc in
+    let first : iter_rest (zip_first c.into_iter-block-iterator.result) ≡ c.args.chosen.now = cc in
+    let second : chunks_rest (zip_second c.into_iter-block-iterator.result) ≡ c.args.content.now = cc in
+    record {
+      can = (tt, omega arith);
+      finite = tt;
+      size = size;
+      inside = λ b i. c.requires.2 b (rw first at i);
+      enough = rw (first, second) c.requires.3;
+      rest = rw (first, second) refl;
+    }
 
-pub loop-k-preserved : goal.loop-k-preserved
-loop-k-preserved c =
-    let l = c.loop-k in
-    let a = c.args in
-    let content : List ℕ = a.content.now in
-    let to = c.least-to.result in
-    let from = 1024 * l.k in
-    let bytes : List ℕ = take (to - from) (drop from content) in
-    let back = block_back l.image (1024 * c.block_of-at.result) bytes (omega arith) (omega (arith, length-lent content from to (omega arith))) c.write_block.ensures in (
-      omega arith,
-      ap length back ∙ length-splice l.image _ (padded bytes 1024) ∙ l.invariant.1,
-      rw (back, c.block_of-at.ensures.0) (sym (write_next l.image a.chosen.now content l.k to (omega arith) (omega arith) c.least-to.ensures) ∙ l.invariant.2),
-    )
+pub overflow_mul-at : goal.overflow_mul-at
+overflow_mul-at c = omega (arith, c.from-at.ensures, first_below _ _ _ _ c.in-Some.ensures.steps.0 c.loop-block.invariant.inside, c.requires.1)
+
+pub overflow_add-at : goal.overflow_add-at
+overflow_add-at c = omega (arith, c.from-at.ensures, first_below _ _ _ _ c.in-Some.ensures.steps.0 c.loop-block.invariant.inside, c.requires.1)
+
+pub slice_bounds-write_block-end : goal.slice_bounds-write_block-end
+slice_bounds-write_block-end c = omega (arith, c.from-at.ensures, first_below _ _ _ _ c.in-Some.ensures.steps.0 c.loop-block.invariant.inside, c.requires.0)
+
+pub loop-block-preserved : goal.loop-block-preserved
+loop-block-preserved c =
+    let l = c.loop-block in
+    let s = c.in-Some.ensures.steps in
+    let bytes : List ℕ = c.in-Some.part.now in
+    let size : length bytes ≡ min 1024 (length (chunks_rest (zip_second l.block-iterator))) = s.1.1.1 ∙ rw l.invariant.size in
+    let low = first_below _ _ _ _ s.0 l.invariant.inside in
+    let back = block_back l.image (1024 * c.from-at.result) bytes (omega (arith, low, c.from-at.ensures, c.requires.0)) (omega arith) c.write_block.ensures in
+    record {
+      can = (tt, omega (arith, s.1.0));
+      finite = tt;
+      size = s.1.0 ∙ l.invariant.size;
+      inside = λ b i. l.invariant.inside b (rw s.0 (inr i));
+      enough = omega (arith, l.invariant.enough, ap length s.0, ap length s.1.1.0, s.1.1.2, length-append bytes (chunks_rest (zip_second c.next.new.self)));
+      rest = rw (back, c.from-at.ensures) (sym (write_next l.image _ bytes _ _ _ _ s.0 s.1.1.0 size) ∙ l.invariant.rest);
+    }
 
 pub returns : goal.returns
 returns c =
-    let l = c.loop-k in
-    let a = c.args in
-    sym (write_end l.image a.chosen.now a.content.now l.k (omega arith)) ∙ l.invariant.2
+    let l = c.loop-block in
+    sym (write_end l.image _ _ (⊎_elim (λ u. u.1.0) (λ u. omega (arith, u.1.1.0, l.invariant.enough)) c.in-None.ensures.steps)) ∙ l.invariant.rest

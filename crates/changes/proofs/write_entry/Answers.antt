@@ -1,6 +1,6 @@
 -- `changes::write_entry` meets its contract: name area, type, length, start and identity follow one another, so they are one write of 24 bytes.
 -- A write that goes on where another ends joins it, by `splice-append`. Assumes nothing.
-use Rattle.std.proofs.Common.{◌≡◌, ◌∙◌, List, [], ◌∷◌, ◌++◌, ℕ, ◌+◌, arith, length, set, length-set, take_all}
+use Rattle.std.proofs.Common.{◌≡◌, ◌∙◌, List, [], ◌∷◌, ◌++◌, ℕ, ◌+◌, arith, length, set, take_all}
 use Rattle.blocks.specs.Lemmas.Numbers.{length_digits}
 use Rattle.blocks.specs.Numbers.{digits}
 use Rattle.changes.specs.Changes.{entry_with}
@@ -31,15 +31,6 @@ written : (img : List ℕ) (at : ℕ) (area : List ℕ) (type size start own : �
 unfolding set_entry part
 written img at area type size start own n p q r t =
     rw (t, r, q, p, take_all 16 area (omega arith)) (fields (splice img at area) at type size start own ∙ join img at (at + 16) area _ (omega arith))
-
-pub store-requires : goal.store-requires
-store-requires c = simp length-set (omega arith)
-
-pub store-requires-2 : goal.store-requires-2
-store-requires-2 c = omega (arith, simp length-set at c.store.auto.target)
-
-pub store-requires-3 : goal.store-requires-3
-store-requires-3 c = omega (arith, simp length-set at c.store.auto.target)
 
 pub returns : goal.returns
 returns c =

@@ -13,3 +13,7 @@ count_fits all r c = omega (arith, c.few, c.count, ap length c.list, length-padd
 -- and holds the blocks
 pub lent-all : (all : List ℕ) (r : Blocks) → Collected all r → take (r.count - 0) (drop 0 r.list) ≡ all
 lent-all all r c = let z : r.count - 0 ≡ length all = omega (arith, c.count) in rw (z, c.list) (take-padded all 1600)
+
+-- so does the list that `as_slice` lends
+pub slice-all : (all : List ℕ) (r : Blocks) → Collected all r → take r.count r.list ≡ all
+slice-all all r c = rw (c.count, c.list) (take-padded all 1600)

@@ -96,6 +96,16 @@ lowest_least f i (suc n) k e j h l t = go (lowest_least f (suc i) n k) (f i) ref
     go ih false p (yes q) = ih (rw p at e) j (omega arith) (omega arith) t
     go ih false p (no q) = let o : i ≡ j = omega arith in absurd (clash (ap f o ∙ t) p)
 
+-- a number that passes where none below it does is the lowest
+pub lowest_is : (f : ℕ → Bool) (i n k : ℕ) → i ≤ k → k < i + n → f k ≡ true → ((j : ℕ) → i ≤ j → j < k → f j ≡ false) → lowest f i n ≡ Some k
+unfolding lowest
+lowest_is f i zero k h l e below = absurd (omega arith)
+lowest_is f i (suc n) k h l e below = go (lowest_is f (suc i) n k) (ℕ_discrete i k)
+  where
+    go : (suc i ≤ k → k < suc i + n → f k ≡ true → ((j : ℕ) → suc i ≤ j → j < k → f j ≡ false) → lowest f (suc i) n ≡ Some k) → Dec (i ≡ k) → lowest f i (suc n) ≡ Some k
+    go ih (yes q) = rw (q, e) refl
+    go ih (no q) = rw (below i (omega arith) (omega arith)) (ih (omega arith) (omega arith) e (λ j a b. below j (omega arith) b))
+
 -- ---- a count
 
 module _ (f : ℕ → Bool) (i n : ℕ) where

@@ -2,25 +2,11 @@
 -- Each block passed is free, and collected, or it isn't; the loop stops where none is left or none is wanted. Assumes nothing.
 use Rattle.std.proofs.Common.{◌≡◌, [], take, sym, ◌∙◌, ◌-◌, ◌<◌, arith}
 use Rattle.laws.specs.Reader.{bytes}
-use Rattle.map.specs.Lemmas.Collect.{collect_none, collect_one, collect_end, wanted_end, wanted_full}
+use Rattle.map.specs.Lemmas.Collect.{collect_one, collect_end, wanted_end, wanted_full}
 use Rattle.map.proofs.Lemmas.Collect.{wanted_stop, wanted_on}
 use Rattle.map.specs.Map.{map_at, free_blocks, free_from}
 use Rattle.map.proofs.free_blocks.Goals.{then-map_at-eq0, else-map_at-eq0, else-loop-block-test, then-loop-block-test+then-count-wanted}
 use Rattle.map.proofs.free_blocks.Goals as goal
-
-pub loop-block-init : goal.loop-block-init
-loop-block-init c =
-    let e : c.args.wanted - 0 ≡ c.args.wanted = omega arith in
-    (omega arith, omega arith, collect_none _ _ (rw e))
-
-pub overflow_cast-list : goal.overflow_cast-list
-overflow_cast-list c = omega (arith, c.requires.1.blocks_most)
-
-pub bounds-list-count : goal.bounds-list-count
-bounds-list-count c = omega (arith, c.requires.1.blocks_most)
-
-pub overflow_add-count : goal.overflow_add-count
-overflow_add-count c = omega (arith, c.requires.1.blocks_most)
 
 pub loop-block-preserved : goal.loop-block-preserved
 loop-block-preserved c =
@@ -44,12 +30,6 @@ loop-block-preserved c =
             rw (w.list-is, w.count-is, ← rest) l.invariant.2,
           )
     ]
-
-pub offset_bounds-list-count : goal.offset_bounds-list-count
-offset_bounds-list-count c = omega (arith, c.requires.1.blocks_most)
-
-pub invariant_of-result : goal.invariant_of-result
-invariant_of-result c = record { few = omega (arith, c.requires.1.blocks_most) }
 
 pub returns : goal.returns
 unfolding free_blocks

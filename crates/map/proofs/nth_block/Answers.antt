@@ -1,9 +1,9 @@
 -- `map::nth_block` meets its contract: after k turns the block in hand is the k-th of the chain, and k links more are counted.
 -- A faultless chain's blocks are data blocks, so each has a map value to read. Assumes nothing.
-use Rattle.std.proofs.Common.{◌≡◌, refl, ap, ◌∙◌, ℕ, arith, get_or}
+use Rattle.std.proofs.Common.{refl, arith}
 use Rattle.laws.specs.Reader.{bytes}
 use Rattle.map.specs.Lemmas.Chains.{nth_first, nth_data, nth_next}
-use Rattle.map.specs.Map.{map_at, chain}
+use Rattle.map.specs.Map.{map_at}
 use Rattle.map.proofs.nth_block.Goals as goal
 
 pub loop-init : goal.loop-init
@@ -17,12 +17,3 @@ loop-preserved c =
     let a = c.args in
     let f = c.follow-block.ensures in
     (nth_next (map_at (bytes a.image.now)) a.links a.start c.loop.counter c.loop.invariant.0 f.value (omega arith) refl, omega (arith, f.followed_after))
-
-pub returns : goal.returns
-returns c =
-    let a = c.args in
-    let e : c.loop.counter ≡ a.n = omega arith in
-    record {
-      value = c.loop.invariant.0 ∙ ap (λ (i : ℕ). get_or (chain (map_at (bytes a.image.now)) a.links a.start) i 0) e;
-      followed_after = omega arith;
-    }

@@ -18,7 +18,6 @@ use Rattle.map.specs.Map.{map_at, Fits, Data, chain, Chained}
 use Rattle.pages.specs.Cost.{cost_of}
 use Rattle.pages.specs.Lemmas.Growing.{cost_low, cost_few}
 use Rattle.pages.proofs.Lemmas.Growing.{run_links, run_runs}
-use Rattle.pages.specs.declared.Cost.{Cost}
 use lib.Seq.{take-append-le, drop-append-le, drop-append-add}
 use Rattle.pages.proofs.page_runs.Goals as goal
 
@@ -62,10 +61,6 @@ page-run img ks offset count done run block e inside long h k q =
 -- the map lies in the image
 fits : (l : Layout) → LayoutRight l → (img : List ℕ) → length img ≡ image_length l → Fits l img
 fits l right img size = omega (arith, right.map-low, right.data_some)
-
--- a cost by its parts
-cost_of_is : {links runs : ℕ} (c : Cost) → links ≡ c.links → runs ≡ c.runs → record { links = links; runs = runs } ≡ c
-cost_of_is c e f = rw (e, f) refl
 
 -- ---- the loop
 
@@ -160,7 +155,7 @@ loop-done-preserved c =
     let img = a.image.now in
     let all = page img a.links a.start a.offset a.count in
     let block = c.nth_block-block.result in
-    let run = c.least-run.result in
+    let run = c.min-run.result in
     let n = length-chain m a.links a.start in
     let q : part img (1024 * block + (a.offset + l.done) % 1024) run ≡ part all l.done run =
     page-run img (chain m a.links a.start) a.offset a.count l.done run block stands (omega (arith, lies.1, c.requires.layout_right.1)) (omega (arith, n)) (omega arith) (omega (arith, n)) (omega arith) in
@@ -178,13 +173,9 @@ loop-done-preserved c =
       λ h k. omega arith,
     )
 
-pub returns : goal.returns
-returns c =
+pub returns-clause-out_after : goal.returns-clause-out_after
+returns-clause-out_after c =
     let a = c.args in
     let l = c.loop-done in
     let all = page a.image.now a.links a.start a.offset a.count in
-    let e : cost_of (a.links + 1) a.offset l.done ≡ cost_of (a.links + 1) a.offset a.count = ap (cost_of (a.links + 1) a.offset) (omega arith) in
-    record {
-      out_after = l.invariant.4 ∙ ap (splice a.out.now 0) (take_all l.done all (omega (arith, page_long a.image.now a.links a.start a.offset a.count c.requires.count_bound.0)));
-      value = cost_of_is (cost_of (a.links + 1) a.offset l.done) (l.invariant.5 ∙ l.invariant.6) l.invariant.7 ∙ e;
-    }
+    l.invariant.4 ∙ ap (splice a.out.now 0) (take_all l.done all (omega (arith, page_long a.image.now a.links a.start a.offset a.count c.requires.count_bound.0)))

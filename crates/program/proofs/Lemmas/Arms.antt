@@ -1,11 +1,12 @@
--- What each arm of the code shows of a program's parts and of the check's answer.
--- By the tests that led there; the loop over parts by the law of its fold. Assumes nothing.
-use Rattle.std.specs.Prelude.{◌≡◌, List, ℕ, ◌+◌, ◌-◌, ◌*◌, ◌<◌, take, drop, Some, None}
+-- What a part in hand shows of a program's parts.
+-- By what the parts from it on give. Assumes nothing.
+use Rattle.std.specs.Prelude.{◌≡◌, List, ℕ, ◌+◌, ◌-◌, ◌*◌, ◌<◌, take, drop, None, true, false, is_some}
 use Rattle.std.proofs.Math.Path.{refl, sym, ap}
 use Rattle.std.proofs.Common.{◌∙◌}
 use native.Mathlib.Omega.{arith}
 use Rattle.laws.specs.Lemmas.Scan.{over_next}
 use Rattle.laws.specs.Splice.{part}
+use Rattle.rows.proofs.Lemmas.Arms.{stopped, passed}
 use Rattle.rows.specs.Rows.{or_else, rows_fault}
 use Rattle.headers.specs.declared.Table.{Table}
 use Rattle.headers.specs.Tables.{rows_of}
@@ -15,18 +16,18 @@ use Rattle.laws.specs.Scan.{Lowest}
 
 -- ---- the loop
 
-module _ (file : List ℕ) (n k : ℕ) {at end : ℕ} {table : Table} {f : Lowest} (v : RestOf file n k) (h : k < n) (p : at ≡ 150 * k) (q : end ≡ at + 150)
+module _ (file : List ℕ) (n k : ℕ) (f : Lowest) {at end : ℕ} {table : Table} (v : RestOf file n k) (h : k < n) (p : at ≡ 150 * k) (q : end ≡ at + 150)
     (e : table ≡ table_of k) (w : f ≡ rows_fault (take (end - at) (drop at file)) at (rows_of table)) where
   part_is : f ≡ part_fault file k
   unfolding part_fault part
   part_is = let y : end - at ≡ 150 = omega arith in rw (w, y, p, e) refl
 
-  rest_by : {g : Lowest} → f ≡ g → or_else g (parts_fault file (k + 1) (n - (k + 1))) ≡ parts_fault file 0 n
+  rest_by : or_else f (parts_fault file (k + 1) (n - (k + 1))) ≡ parts_fault file 0 n
   unfolding parts_fault
-  rest_by t = ap (λ (x : Lowest). or_else x (parts_fault file (k + 1) (n - (k + 1)))) (sym t ∙ part_is) ∙ sym (over_next (λ i rest. or_else (part_fault file i) rest) None k n h) ∙ v
+  rest_by = ap (λ (x : Lowest). or_else x (parts_fault file (k + 1) (n - (k + 1)))) part_is ∙ sym (over_next (λ i rest. or_else (part_fault file i) rest) None k n h) ∙ v
 
-  pub part_stop : {place : ℕ} → f ≡ Some place → Some place ≡ parts_fault file 0 n
-  part_stop t = rest_by t
+  pub part_stop : is_some f ≡ true → f ≡ parts_fault file 0 n
+  part_stop t = stopped f _ t ∙ rest_by
 
-  pub part-on : f ≡ None → RestOf file n (k + 1)
-  part-on t = rest_by t
+  pub part-on : is_some f ≡ false → RestOf file n (k + 1)
+  part-on t = sym (passed f _ t) ∙ rest_by

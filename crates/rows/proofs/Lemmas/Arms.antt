@@ -1,9 +1,9 @@
 -- What a search of a run's numbers shows of the run's fault, and a row in hand of its table's.
 -- By the first number that breaks the rule, and by what the rows from row i on give. Assumes nothing.
-use Rattle.std.specs.Prelude.{◌≡◌, Bool, true, false, List, get_or, drop, Option, Some, None, MatchOption, IsSomeAnd, is_some}
+use Rattle.std.specs.Prelude.{◌≡◌, true, false, List, get_or, drop, Option, Some, None, MatchOption, IsSomeAnd, is_some}
 use Rattle.std.proofs.Math.Path.{refl, sym, ap}
 use Rattle.std.proofs.Common.{◌∙◌, true≢false, drop_of_length-le}
-use Prim.Native.Nat.{ℕ, zero, suc, ◌+◌, ◌≤◌, ◌<◌}
+use Prim.Native.Nat.{ℕ, ◌+◌, ◌≤◌, ◌<◌}
 use Rattle.std.proofs.Math.Numerals.{add-one}
 use native.Mathlib.Omega.{arith}
 use Rattle.std.proofs.Math.ListN.{length}
@@ -12,21 +12,11 @@ use Rattle.rows.specs.declared.Row.{Row}
 use Rattle.rows.specs.Rows.{breaks, place_of, run_fault, row_fault, or_else, rows_fault}
 use Rattle.rows.specs.Lemmas.Arms.{run_stop, run_clean}
 use Rattle.rows.specs.declared.Row.TheVariants.{Only}
-use Rattle.std.proofs.Math.Decide.{ℕ_discrete}
-use Rattle.laws.specs.Scan.{lowest, Lowest}
-use Rattle.laws.specs.Lemmas.Scan.{→nowhere}
+use Rattle.laws.specs.Scan.{Lowest}
+use Rattle.laws.specs.Lemmas.Scan.{→nowhere, lowest_is}
 use Rattle.rows.specs.declared.Run.{Run}
 
 -- ---- a run: what a search of its numbers found, and the place of that
-
-lowest_is : (f : ℕ → Bool) (i n k : ℕ) → i ≤ k → k < i + n → f k ≡ true → ((j : ℕ) → i ≤ j → j < k → f j ≡ false) → lowest f i n ≡ Some k
-unfolding lowest
-lowest_is f i zero k h l e below = absurd (omega arith)
-lowest_is f i (suc n) k h l e below = go (lowest_is f (suc i) n k) (ℕ_discrete i k)
-  where
-    go : (suc i ≤ k → k < suc i + n → f k ≡ true → ((j : ℕ) → suc i ≤ j → j < k → f j ≡ false) → lowest f (suc i) n ≡ Some k) → Dec (i ≡ k) → lowest f i (suc n) ≡ Some k
-    go ih (yes q) = rw (q, e) refl
-    go ih (no q) = rw (below i (omega arith) (omega arith)) (ih (omega arith) (omega arith) e (λ j a b. below j (omega arith) b))
 
 module _ (header : List ℕ) (base : ℕ) (run : Run) where
   pub run_found : {count : ℕ} → count ≡ run.count → (found place : Option ℕ)
@@ -38,6 +28,16 @@ module _ (header : List ℕ) (base : ℕ) (run : Run) where
   run_found {count} e (Some i) None h m = elim m [ ]
   run_found {count} e (Some i) (Some p) h m =
       run_stop header base run e (sym (lowest_is (breaks header base run) 0 count i h.0 (omega (arith, h.1)) h.2 h.3)) m
+
+-- ---- the first of two places: the one there is, or the other
+
+pub stopped : (f g : Lowest) → is_some f ≡ true → f ≡ or_else f g
+stopped (Some place) g t = refl
+stopped None g t = absurd (true≢false (sym t))
+
+pub passed : (f g : Lowest) → is_some f ≡ false → or_else f g ≡ g
+passed (Some place) g t = absurd (true≢false t)
+passed None g t = refl
 
 -- ---- a table: what the rows from row i on give is what all of them give
 
@@ -54,21 +54,18 @@ module _ (header : List ℕ) (base : ℕ) (rows : List Row) (i : ℕ) where
   rest_row h = rw (drop-cons rows i no_row h, add-one i, rows_fault) refl
 
   -- the rest of the table is known once the row in hand is
-  rest_by : {row : Row} {f g : Lowest} → RestOf header base rows i → i < length rows → row ≡ get_or rows i no_row → f ≡ row_fault header base row → f ≡ g
-      → or_else g (rows_fault header base (drop (i + 1) rows)) ≡ rows_fault header base rows
-  rest_by v h e k t =
-      let q = sym t ∙ k ∙ ap (row_fault header base) e in
-      ap (λ (x : Lowest). or_else x (rows_fault header base (drop (i + 1) rows))) q ∙ sym (rest_row h) ∙ v
+  rest_by : {row : Row} {f : Lowest} → RestOf header base rows i → i < length rows → row ≡ get_or rows i no_row → f ≡ row_fault header base row
+      → or_else f (rows_fault header base (drop (i + 1) rows)) ≡ rows_fault header base rows
+  rest_by v h e k =
+      ap (λ (x : Lowest). or_else x (rows_fault header base (drop (i + 1) rows))) (k ∙ ap (row_fault header base) e) ∙ sym (rest_row h) ∙ v
 
   pub rows_stop : {row : Row} (f : Lowest) → RestOf header base rows i → i < length rows → row ≡ get_or rows i no_row
       → f ≡ row_fault header base row → is_some f ≡ true → f ≡ rows_fault header base rows
-  rows_stop (Some place) v h e k t = rest_by v h e k refl
-  rows_stop None v h e k t = absurd (true≢false (sym t))
+  rows_stop f v h e k t = stopped f _ t ∙ rest_by v h e k
 
   pub rows_on : {row : Row} (f : Lowest) → RestOf header base rows i → i < length rows → row ≡ get_or rows i no_row
       → f ≡ row_fault header base row → is_some f ≡ false → RestOf header base rows (i + 1)
-  rows_on (Some place) v h e k t = absurd (true≢false t)
-  rows_on None v h e k t = rest_by v h e k refl
+  rows_on f v h e k t = sym (passed f _ t) ∙ rest_by v h e k
 
   pub rows_clean : RestOf header base rows i → length rows ≤ i → None ≡ rows_fault header base rows
   unfolding rows_fault

@@ -13,7 +13,7 @@ pub loop-i-preserved : goal.loop-i-preserved
 loop-i-preserved c =
     let a = c.args in
     written_one (λ k. word_of 65536 (number 2 (bytes a.source.now) (2 * k))) 0 a.count a.words.now c.loop-i.invariant c.loop-i-test.true (sym (zero-add _))
-    (to_z-of_z {w = w16} (record { sfits = c.word-word.type_inv }) ∙ c.word-word.ensures ∙ ap (word_of 65536) c.number.ensures.value)
+    (to_z-of_z {w = w16} (record { sfits = c.word.type_inv }) ∙ c.word.ensures ∙ ap (word_of 65536) c.number.ensures.value)
 
 pub returns : goal.returns
 unfolding unpacked1000

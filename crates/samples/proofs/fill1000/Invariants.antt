@@ -1,6 +1,5 @@
--- The loop of `samples::fill1000`: the words below i are filled.
--- It goes on by one. Assumes nothing.
-use Rattle.std.proofs.Common.{◌*◌, ◌-◌, [], ◌∷◌}
+-- The loop of `samples::fill1000`: the words below i are filled. Assumes nothing.
+use Rattle.std.proofs.Common.{◌*◌, [], ◌∷◌}
 use Rattle.laws.specs.Reader.{bytes}
 use Rattle.blocks.specs.Numbers.{number}
 use Rattle.words.specs.Lemmas.Parts.{Written}
@@ -9,6 +8,3 @@ use Rattle.samples.proofs.fill1000.Given as goal
 
 abbrev pub invariant-loop-i : goal.invariant-loop-i
 invariant-loop-i l = Written (λ k. word_of 65536 (number 2 (bytes l.source) (2 * k)) ∷ []) 1 0 l.count l.initial.words l.words l.i
-
-abbrev pub decreases-loop-i : goal.decreases-loop-i
-decreases-loop-i l = l.count - l.i

@@ -12,7 +12,7 @@ pub loop-i-preserved : goal.loop-i-preserved
 loop-i-preserved c =
     let a = c.args in
     written_one (λ k. word_of 4096 (first_bits (bytes a.source.now) k)) 0 a.half a.words.now c.loop-i.invariant c.loop-i-test.true (sym (zero-add _))
-    (to_z-of_z {w = w16} (record { sfits = c.first_word-word.type_inv }) ∙ c.first_word-word.ensures ∙ ap (word_of 4096) (first_bits_is (bytes a.source.now) _ c.number.ensures))
+    (to_z-of_z {w = w16} (record { sfits = c.first_word.type_inv }) ∙ c.first_word.ensures ∙ ap (word_of 4096) (first_bits_is (bytes a.source.now) _ c.number.ensures))
 
 pub returns : goal.returns
 returns c =

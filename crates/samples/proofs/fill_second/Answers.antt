@@ -12,7 +12,7 @@ pub loop-i-preserved : goal.loop-i-preserved
 loop-i-preserved c =
     let a = c.args in
     written_one (λ k. word_of 4096 (second_bits (bytes a.source.now) a.half k)) a.half a.half a.words.now c.loop-i.invariant c.loop-i-test.true refl
-    (to_z-of_z {w = w16} (record { sfits = c.second_word-word.type_inv }) ∙ c.second_word-word.ensures ∙ ap (word_of 4096) (second_bits_is (bytes a.source.now) _ c.number.ensures a.half))
+    (to_z-of_z {w = w16} (record { sfits = c.second_word.type_inv }) ∙ c.second_word.ensures ∙ ap (word_of 4096) (second_bits_is (bytes a.source.now) _ c.number-pair.ensures a.half))
 
 pub returns : goal.returns
 returns c =

@@ -1,27 +1,19 @@
--- `samples::lowest_outside` meets its contract: the words before the one in hand are held, so the first that is not is the lowest.
--- A search for the lowest place. Assumes nothing.
-use Rattle.std.proofs.Common.{not, ap, ◌∙◌, pos, get_or, FitsSigned, w16, rules}
-use Rattle.laws.proofs.Lemmas.Search.{searched_found, searched_more, searched_all}
+-- `samples::lowest_outside` meets its contract: the position of the first word that is not held.
+-- By what `position` says of a slice, each word as the code reads it. Assumes nothing.
+use Rattle.std.specs.Prelude.{◌≡◌, Bool, true, false, ℤ}
+use Rattle.std.proofs.Common.{sym, ap, ◌∙◌, rules, tests, FitsSigned, w16, to_z, of_z}
+use Rattle.std.proofs.lemmas.Iterator.{IsFirst-from_position, YieldsList-from_slice}
 use Rattle.words.specs.Words.{holds}
 use Rattle.words.specs.Lemmas.Signed.{read_back}
-use Rattle.samples.specs.Samples.{is_outside}
+use Rattle.samples.specs.Lemmas.Steps.{outside_found}
 use Rattle.samples.proofs.lowest_outside.Goals as goal
 
-pub loop-i-preserved : goal.loop-i-preserved
-loop-i-preserved c =
-    let words = c.args.words.now in
-    let i = c.loop-i.i in
-    let f : FitsSigned w16 (get_or words i (pos 0)) = search rules in
-    let e = c.is_short.ensures ∙ ap (holds 4096) (read_back (get_or words i (pos 0)) f) in
-    searched_more (is_outside words) _ i c.loop-i.invariant c.loop-i-test.true (ap not e) (ap not c.if-is_short.true)
-
-pub returns-else-is_short : goal.returns-else-is_short
-returns-else-is_short c =
-    let words = c.args.words.now in
-    let i = c.loop-i.i in
-    let f : FitsSigned w16 (get_or words i (pos 0)) = search rules in
-    let e = c.is_short.ensures ∙ ap (holds 4096) (read_back (get_or words i (pos 0)) f) in
-    searched_found (is_outside words) _ i c.loop-i.invariant c.loop-i-test.true (ap not e) (ap not c.if-is_short.false)
+as_read : (w : ℤ) (t : Bool) → FitsSigned w16 w → holds 4096 (to_z w16 (of_z w16 w)) ≡ t → holds 4096 w ≡ t
+as_read w t f e = sym (ap (holds 4096) (read_back w f)) ∙ e
 
 pub returns : goal.returns
-returns c = searched_all _ _ _ c.loop-i.invariant c.loop-i-test.false
+returns c =
+    outside_found c.args.words.now c.position.result
+    (IsFirst-from_position _ _ c.position.result (λ w. holds 4096 w ≡ false) (λ w. holds 4096 w ≡ true) c.position.ensures.ran (YieldsList-from_slice c.args.words.now cc)
+    (λ x q k. as_read x.now false (search (rules, tests)) (search (rules, tests)))
+    (λ x q k. (search rules, as_read x.now true (search (rules, tests)) (search (rules, tests)))))

@@ -18,37 +18,37 @@ ready : (sampler : Sampler) (header : List ℕ) (words : List ℤ) {f g : Lowest
 ready sampler header words e h r k s n d = record { fault = sym e ∙ h; range = sym r ∙ k; size_is = s; count_is = n; rest_is = d }
 
 pub returns-in-Some : goal.returns-in-Some
-returns-in-Some c = pack_refused c.args.sampler c.args.header.now c.args.words.now c.args.out.now c.header_fault-fault.ensures c.in-Some.is
+returns-in-Some c = pack_refused c.args.sampler c.args.header.now c.args.words.now c.args.out.now c.header_fault.ensures c.in-Some.is
 
-pub returns-in-Some-outside : goal.returns-in-Some-outside
-returns-in-Some-outside c =
-    pack_outside c.args.sampler c.args.header.now c.args.words.now c.args.out.now c.header_fault-fault.ensures c.in_default.is c.range_fault-outside.ensures c.in-Some-outside.is
+pub returns-in-Some-range_fault : goal.returns-in-Some-range_fault
+returns-in-Some-range_fault c =
+    pack_outside c.args.sampler c.args.header.now c.args.words.now c.args.out.now c.header_fault.ensures c.in_default.is c.range_fault.ensures c.in-Some-range_fault.is
 
 pub count_in-requires : goal.count_in-requires
-count_in-requires c = ((header_accepted _ _ _).0 (sym c.header_fault-fault.ensures ∙ c.in_default.is)).0.size
+count_in-requires c = ((header_accepted _ _ _).0 (sym c.header_fault.ensures ∙ c.in_default.is)).0.size
 
 pub returns-then-out-due : goal.returns-then-out-due
 returns-then-out-due c =
     let a = c.args in
-    let r = ready a.sampler a.header.now a.words.now c.header_fault-fault.ensures c.in_default.is c.range_fault-outside.ensures c.in_default-outside.is c.header_size-size.ensures.0 c.count_in.ensures.value c.data_size.ensures.0 in
+    let r = ready a.sampler a.header.now a.words.now c.header_fault.ensures c.in_default.is c.range_fault.ensures c.in_default-range_fault.is c.header_size-size.ensures.0 c.count_in.ensures.value c.data_size.ensures.0 in
     pack_short a.sampler a.header.now a.words.now a.out.now r c.if-out-due.true
 
 pub copy_part-requires : goal.copy_part-requires
 copy_part-requires c =
     let a = c.args in
-    let r = ready a.sampler a.header.now a.words.now c.header_fault-fault.ensures c.in_default.is c.range_fault-outside.ensures c.in_default-outside.is c.header_size-size.ensures.0 c.count_in.ensures.value c.data_size.ensures.0 in
+    let r = ready a.sampler a.header.now a.words.now c.header_fault.ensures c.in_default.is c.range_fault.ensures c.in_default-range_fault.is c.header_size-size.ensures.0 c.count_in.ensures.value c.data_size.ensures.0 in
     let e = ready_header a.sampler a.header.now a.words.now a.out.now r in
     (omega arith, omega arith)
 
 pub store-requires : goal.store-requires
 store-requires c =
     let a = c.args in
-    let r = ready a.sampler a.header.now a.words.now c.header_fault-fault.ensures c.in_default.is c.range_fault-outside.ensures c.in_default-outside.is c.header_size-size.ensures.0 c.count_in.ensures.value c.data_size.ensures.0 in
+    let r = ready a.sampler a.header.now a.words.now c.header_fault.ensures c.in_default.is c.range_fault.ensures c.in_default-range_fault.is c.header_size-size.ensures.0 c.count_in.ensures.value c.data_size.ensures.0 in
     let e = ready_rest a.sampler a.header.now a.words.now a.out.now r in
     omega (arith, ap length c.copy_part.ensures, length-splice a.out.now 0 (part a.header.now 0 c.header_size-size.result))
 
 pub returns : goal.returns
 returns c =
     let a = c.args in
-    let r = ready a.sampler a.header.now a.words.now c.header_fault-fault.ensures c.in_default.is c.range_fault-outside.ensures c.in_default-outside.is c.header_size-size.ensures.0 c.count_in.ensures.value c.data_size.ensures.0 in
+    let r = ready a.sampler a.header.now a.words.now c.header_fault.ensures c.in_default.is c.range_fault.ensures c.in_default-range_fault.is c.header_size-size.ensures.0 c.count_in.ensures.value c.data_size.ensures.0 in
     pack_done a.sampler a.header.now a.words.now a.out.now r c.if-out-due.false c.copy_part.ensures c.store.ensures

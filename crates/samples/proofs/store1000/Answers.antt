@@ -19,7 +19,7 @@ loop-i-preserved c =
     let f : FitsSigned w16 (get_or words l.i (pos 0)) = search rules in
     let bits = c.bits.ensures.0 ∙ ap (bits_of 65536) (read_back (get_or words l.i (pos 0)) f) in
     written_more (λ k. digits 2 (bits_at 65536 words k)) 2 a.at _ a.out.now l.invariant c.loop-i-test.true (length_digits 2 _)
-    (c.store.ensures ∙ ap (λ (v : ℕ). splice l.out (a.at + 2 * l.i) (digits 2 v)) bits)
+    (c.store.ensures ∙ ap (λ (v : ℕ). splice l.out (a.at + 2 * l.i) (digits 2 v)) (c.from.ensures ∙ bits))
 
 pub returns : goal.returns
 unfolding splice packed1000

@@ -13,23 +13,23 @@ opened : (sampler : Sampler) (file : List ℕ) {f : Lowest} {size : ℕ} → f �
 opened sampler file e h s = record { fault = sym e ∙ h; size_is = s }
 
 pub returns-in-Some : goal.returns-in-Some
-returns-in-Some c = unpack_refused c.args.sampler c.args.file.now c.args.words.now c.file_fault-fault.ensures c.in-Some.is
+returns-in-Some c = unpack_refused c.args.sampler c.args.file.now c.args.words.now c.file_fault.ensures c.in-Some.is
 
 pub slice_bounds-count_in-end : goal.slice_bounds-count_in-end
 slice_bounds-count_in-end c =
-    opened_long c.args.sampler c.args.file.now (opened c.args.sampler c.args.file.now c.file_fault-fault.ensures c.in_default.is c.header_size-size.ensures.0)
+    opened_long c.args.sampler c.args.file.now (opened c.args.sampler c.args.file.now c.file_fault.ensures c.in_default.is c.header_size-size.ensures.0)
 
 pub returns-then-words-count : goal.returns-then-words-count
 returns-then-words-count c =
-    let o = opened c.args.sampler c.args.file.now c.file_fault-fault.ensures c.in_default.is c.header_size-size.ensures.0 in
+    let o = opened c.args.sampler c.args.file.now c.file_fault.ensures c.in_default.is c.header_size-size.ensures.0 in
     unpack_short c.args.sampler c.args.file.now c.args.words.now o c.count_in-count.ensures.value c.if-words-count.true
 
 pub fill-requires : goal.fill-requires
 fill-requires c =
-    let o = opened c.args.sampler c.args.file.now c.file_fault-fault.ensures c.in_default.is c.header_size-size.ensures.0 in
+    let o = opened c.args.sampler c.args.file.now c.file_fault.ensures c.in_default.is c.header_size-size.ensures.0 in
     (unpack_room c.args.sampler c.args.file.now c.args.words.now o c.count_in-count.ensures.value, c.if-words-count.false)
 
 pub returns : goal.returns
 returns c =
-    let o = opened c.args.sampler c.args.file.now c.file_fault-fault.ensures c.in_default.is c.header_size-size.ensures.0 in
+    let o = opened c.args.sampler c.args.file.now c.file_fault.ensures c.in_default.is c.header_size-size.ensures.0 in
     unpack_done c.args.sampler c.args.file.now c.args.words.now o c.count_in-count.ensures.value c.if-words-count.false c.fill.ensures

@@ -1,16 +1,17 @@
 -- What the code finds, one test or call after another, is what the definitions of the faults and of the calls say.
 -- Each step is a rewriting by what the code has in hand. Assumes nothing.
-use Rattle.std.specs.Prelude.{◌≡◌, Bool, true, false, not, List, ◌++◌, ℕ, ◌+◌, ◌-◌, ◌≤◌, ◌<◌, eqb, ℤ, take, drop, Ok, Some, Err, None}
+use Rattle.std.specs.Prelude.{◌≡◌, Option, MatchOption, pos, Bool, true, false, not, ◌&&◌, List, ◌++◌, ℕ, ◌+◌, ◌-◌, ◌≤◌, ◌<◌, eqb, ℤ, take, drop, Ok, Some, Err, None}
 use Rattle.std.proofs.Math.Path.{refl, ap}
 use Rattle.std.proofs.Common.{sym, ◌∙◌, arith, length-drop, take_all, length-take-le, lt-ltb, le-ltb, eq-eqb, ne_eqb}
-use Rattle.std.proofs.Math.Bool.{not-not}
 use Rattle.std.proofs.Math.Nat.{sub-zero, zero-add}
 use Rattle.std.proofs.Math.ListN.{length}
 use Rattle.std.proofs.Math.Seq.{sets}
+use Rattle.std.specs.List.{AllWithin, HoldsAt}
+use Rattle.words.specs.Words.{holds}
 use Rattle.laws.specs.Truth.{both}
 use Rattle.laws.specs.Refusals.{refusal_at, Filled, filled, unless}
-use Rattle.laws.specs.Scan.{all, Lowest}
-use Rattle.laws.specs.Lemmas.Scan.{all_end, all_stop, all-on, all→, →nowhere}
+use Rattle.laws.specs.Scan.{lowest, all, Lowest}
+use Rattle.laws.specs.Lemmas.Scan.{over_next, all_end, all→, →nowhere, lowest_is}
 use Rattle.laws.specs.Splice.{splice, part}
 use Rattle.laws.specs.Lemmas.Splice.{splice-append}
 use Rattle.laws.specs.Reader.{bytes}
@@ -82,23 +83,36 @@ Passed f n i short = (i ≤ n) × (both short (all f i (n - i)) ≡ all f 0 n)
 pub passed_none : (f : ℕ → Bool) (n : ℕ) → Passed f n 0 true
 passed_none f n = (omega arith, rw (sub-zero n) refl)
 
-both_no : (t : Bool) → both t false ≡ false
-both_no true = refl
-both_no false = refl
-
 both_yes : (t : Bool) → both t true ≡ t
 both_yes true = refl
 both_yes false = refl
 
-module _ (f : ℕ → Bool) (n i : ℕ) (short : Bool) (p : Passed f n i short) where
-  pub passed_more : i < n → not (f i) ≡ false → Passed f n (i + 1) short
-  passed_more h e = (omega arith, ap (both short) (sym (all-on f i n h (sym (not-not (f i)) ∙ ap not e))) ∙ p.1)
+both_and : (s b t : Bool) → both (s && b) t ≡ both s (both b t)
+both_and true b t = refl
+both_and false b t = refl
 
-  pub passed_not : i < n → not (f i) ≡ true → Passed f n (i + 1) false
-  passed_not h e = (omega arith, sym (both_no short) ∙ ap (both short) (sym (all_stop f i n h (sym (not-not (f i)) ∙ ap not e))) ∙ p.1)
+module _ (f : ℕ → Bool) (n i : ℕ) (short : Bool) (p : Passed f n i short) where
+  -- the next word, which passes or not
+  pub passed_more : (b : Bool) → i < n → b ≡ f i → Passed f n (i + 1) (short && b)
+  unfolding all
+  passed_more b h e =
+      let rest = all f (i + 1) (n - (i + 1)) in (
+        omega arith,
+        both_and short b rest
+            ∙ ap (both short) (ap (λ (t : Bool). both t rest) e ∙ sym (over_next (λ k r. both (f k) r) true i n h)) ∙ p.1,
+      )
 
   pub passed_all : n ≤ i → short ≡ all f 0 n
   passed_all h = sym (both_yes short) ∙ ap (both short) (sym (all_end f i n h)) ∙ p.1
+
+-- the position of the first word that is not held
+pub outside_found : (words : List ℤ) (found : Option ℕ)
+    → MatchOption found (AllWithin (λ w. holds 4096 w ≡ true) words 0 (length words))
+    (λ i. (i < length words) × HoldsAt (λ w. holds 4096 w ≡ false) words i × AllWithin (λ w. holds 4096 w ≡ true) words 0 i)
+    → found ≡ lowest (is_outside words) 0 (length words)
+outside_found words None h = sym (→nowhere (is_outside words) 0 (length words) (λ j a b. ap not (h j (pos 0) a (omega arith))))
+outside_found words (Some i) h =
+    sym (lowest_is (is_outside words) 0 (length words) i (omega arith) (omega (arith, h.0)) (ap not (h.1 (pos 0))) (λ j a b. ap not (h.2 j (pos 0) a b)))
 
 module _ {sampler : Sampler} (words : List ℤ) (e : sampler ≡ S900) {short : Bool} (p : short ≡ all (is_short words) 0 (length words)) where
   pub range_short : short ≡ true → None ≡ range_fault sampler words

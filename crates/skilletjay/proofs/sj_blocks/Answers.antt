@@ -8,4 +8,4 @@ use Rattle.skilletjay.proofs.sj_blocks.Goals as goal
 pub returns : goal.returns
 returns c =
     let e = c.file_blocks.ensures in
-    record { answer = c.counted_result.ensures ∙ ap (λ (f : Filled ℕ). counted_result f.answer) e; output = ap (λ (f : Filled ℕ). f.output) e }
+    record { answer = c.from.ensures ∙ ap (λ (f : Filled ℕ). counted_result f.answer) e; output = ap (λ (f : Filled ℕ). f.output) e }

@@ -8,4 +8,4 @@ use Rattle.skilletjay.specs.Told.{checked}
 use Rattle.skilletjay.proofs.sj_check.Goals as goal
 
 pub returns : goal.returns
-returns c = ap checked (c.checked_result.ensures ∙ ap (λ (w : Checked). checked_result (answer_of w)) c.check.ensures ∙ ap checked_result (sym (check_call c.args.image.now)))
+returns c = ap checked (c.from.ensures ∙ ap (λ (w : Checked). checked_result (answer_of w)) c.check.ensures ∙ ap checked_result (sym (check_call c.args.image.now)))

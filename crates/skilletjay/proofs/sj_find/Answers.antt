@@ -17,4 +17,4 @@ told img name letter other answer r e f same = ap (found name letter) (e ∙ ap 
 pub returns : goal.returns
 returns c =
     let a = c.args in
-    told a.image.now a.name.now a.letter _ c.find.result c.found_result.result c.found_result.ensures c.find.ensures refl
+    told a.image.now a.name.now a.letter _ c.find.result c.from.result c.from.ensures c.find.ensures refl

@@ -9,4 +9,4 @@ use Rattle.skilletjay.proofs.sj_list.Goals as goal
 pub returns : goal.returns
 returns c =
     let l = c.list.ensures in
-    ap (listed c.args.slot) (c.listed_result.ensures ∙ ap₂ listed_with (ap (λ (o : Outcome (List ℕ)). o.answer) l.answer) l.name)
+    ap (listed c.args.slot) (c.from.ensures ∙ ap₂ listed_with (ap (λ (o : Outcome (List ℕ)). o.answer) l.answer) l.name)

@@ -8,6 +8,6 @@ use Rattle.skilletjay.proofs.sj_page.Goals as goal
 pub returns : goal.returns
 returns c =
     let e = c.page.ensures in
-    let result = c.paged_result.ensures ∙ ap (λ (o : Outcome (List ℕ)). paged_result o.answer) e in
+    let result = c.from.ensures ∙ ap (λ (o : Outcome (List ℕ)). paged_result o.answer) e in
     let lent = ap (λ (o : Outcome (List ℕ)). o.output) e in
     rw (result, lent) refl

@@ -5,4 +5,4 @@ use Rattle.skilletjay.specs.Results.{counted_result}
 use Rattle.skilletjay.proofs.sj_program.Goals as goal
 
 pub returns : goal.returns
-returns c = c.counted_result.ensures ∙ ap counted_result c.check.ensures
+returns c = c.from.ensures ∙ ap counted_result c.check.ensures

@@ -8,6 +8,6 @@ use Rattle.skilletjay.proofs.sj_put.Goals as goal
 pub returns : goal.returns
 returns c =
     let e = c.put.ensures in
-    let result = c.found_result.ensures ∙ ap (λ (o : Outcome (List ℕ)). found_result o.answer) e in
+    let result = c.from.ensures ∙ ap (λ (o : Outcome (List ℕ)). found_result o.answer) e in
     let lent = ap (λ (o : Outcome (List ℕ)). o.state) e in
     rw (result, lent) refl

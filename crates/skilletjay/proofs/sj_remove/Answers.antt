@@ -8,6 +8,6 @@ use Rattle.skilletjay.proofs.sj_remove.Goals as goal
 pub returns : goal.returns
 returns c =
     let e = c.remove.ensures in
-    let result = c.done_result.ensures ∙ ap (λ (o : Outcome (List ℕ)). done_result o.answer) e in
+    let result = c.from.ensures ∙ ap (λ (o : Outcome (List ℕ)). done_result o.answer) e in
     let lent = ap (λ (o : Outcome (List ℕ)). o.state) e in
     rw (result, lent) refl

@@ -8,4 +8,4 @@ use Rattle.skilletjay.proofs.sj_s1000_unpack.Goals as goal
 pub returns : goal.returns
 returns c =
     let e = c.unpack.ensures in
-    record { answer = c.counted_result.ensures ∙ ap (λ (o : Filled ℤ). counted_result o.answer) e; output = ap (λ (o : Filled ℤ). o.output) e }
+    record { answer = c.from.ensures ∙ ap (λ (o : Filled ℤ). counted_result o.answer) e; output = ap (λ (o : Filled ℤ). o.output) e }

@@ -8,7 +8,7 @@ use Rattle.skilletjay.proofs.sj_salvage.Goals as goal
 pub returns : goal.returns
 returns c =
     let e = c.salvage.ensures in
-    let result = c.counted_result.ensures ∙ changed_counted c.salvage.result ∙ ap (λ (o : Outcome (List ℕ)). changed_result o.answer) e in
+    let result = c.from.ensures ∙ changed_counted c.salvage.result ∙ ap (λ (o : Outcome (List ℕ)). changed_result o.answer) e in
     let report = ap (λ (o : Outcome (List ℕ)). o.output) e in
     let lent = ap (λ (o : Outcome (List ℕ)). o.state) e in
     rw (result, report, lent) refl

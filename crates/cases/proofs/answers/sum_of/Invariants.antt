@@ -1,10 +1,7 @@
--- `cases::answers::sum_of` is safe and ends: the sum stays below 65,521, and the bytes that are left get fewer.
--- The invariant bounds the sum, so that 31 times it fits.
-use Rattle.std.specs.Prelude.{◌<◌, ◌-◌, length}
+-- `cases::answers::sum_of` is safe: the sum stays below 65,521.
+-- So 31 times it, and a byte, fit.
+use Rattle.std.specs.Prelude.{◌<◌}
 use Rattle.cases.proofs.answers.sum_of.Given as goal
 
-abbrev pub invariant-loop-i : goal.invariant-loop-i
-invariant-loop-i l = l.sum < 65521
-
-abbrev pub decreases-loop-i : goal.decreases-loop-i
-decreases-loop-i l = length l.out - l.i
+abbrev pub invariant-loop-byte : goal.invariant-loop-byte
+invariant-loop-byte l = l.sum < 65521
