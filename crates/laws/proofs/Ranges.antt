@@ -1,22 +1,22 @@
--- The library's searches over a range in this repository's words: what `find` and `all` over `a..b` answer, whose closure is the test f.
+-- The library's searches over a range in this repository's words: what `find`, `all` and `any` over `a..b` answer, whose closure is the test f.
 -- By the laws of `lowest` and by induction on the range's length. Assumes nothing.
-use Rattle.std.specs.Prelude.{◌≡◌, refl, Bool, true, false, Some, None, Option, List, [], ◌∷◌, ℕ, zero, suc, ◌+◌, ◌-◌, ◌≤◌, ◌<◌}
+use Rattle.std.specs.Prelude.{◌≡◌, refl, Bool, true, false, Some, None, Option, List, [], ◌∷◌, ℕ, zero, suc, ◌+◌, ◌-◌, ◌≤◌, ◌<◌, ◌||◌}
 use Rattle.std.proofs.Common.{sym, ap, ◌∙◌, arith, add-one}
 use Rattle.std.proofs.Math.Decide.{dec_lt}
 use Rattle.std.proofs.iter.Yields.{nat_range_steps}
 use Rattle.std.proofs.lemmas.Iterator.{first_from_Range, YieldsList-from_range}
-use Rattle.std.proofs.lemmas.Iterator.Search.{all_from_yields_List}
+use Rattle.std.proofs.lemmas.Iterator.Search.{all_from_yields_List, any_from_yields_List}
 use Rattle.std.specs.Fn.{Called, CalledAt}
-use Rattle.std.specs.Iterator.{ChecksAll, FindsItem}
-use Rattle.std.specs.List.{list_all, range_with_len}
+use Rattle.std.specs.Iterator.{ChecksAll, ChecksAny, FindsItem}
+use Rattle.std.specs.List.{list_all, list_any, range_with_len}
 use Rattle.std.specs.Option.{MatchOption}
 use denote.Param.Members.{Mut}
 use denote.Ref.{Bor}
 use Rattle.std.specs.declared.ops.Range.{Range}
 use Rattle.laws.specs.Lemmas.Scan.{nowhere→, →nowhere, at→, lowest_least}
 use Rattle.laws.specs.Lemmas.Truth.{clash}
-use Rattle.laws.specs.Scan.{Lowest, lowest, all}
-use Rattle.laws.specs.Truth.{both}
+use Rattle.laws.specs.Scan.{Lowest, lowest, all, any}
+use Rattle.laws.specs.Truth.{both, pick}
 use Rattle.laws.proofs.Tests.{and_both}
 
 -- a number that passes, and none below it does, is the lowest
@@ -52,3 +52,17 @@ all_range f a (suc n) = rw (add-one a, all_range f (suc a) n, and_both (f a) (al
 pub all_passed : {F : Type 0} {g : Mut F (ℕ × Unit {0}) Bool} {s u : Range ℕ} {e : F} {r : Bool} (f : ℕ → Bool) (a b n : ℕ) → ChecksAll nat_range_steps g s e r u → s ≡ record { start = a; end = b } → b - a ≡ n
     → ((x : ℕ) (t : Bool) (q : F) → Called g e (x, tt) t q → (q ≡ e) × (t ≡ f x)) → r ≡ all f a n
 all_passed {u = u} {e = e} {r = r} f a b n ran made size says = all_from_yields_List f u e r ran (YieldsList-from_range a b n made size) says ∙ all_range f a n
+
+or_pick : (a b : Bool) → (a || b) ≡ pick a true b
+or_pick true b = refl
+or_pick false b = refl
+
+any_range : (f : ℕ → Bool) (a n : ℕ) → list_any f (range_with_len a n) ≡ any f a n
+unfolding any
+any_range f a zero = refl
+any_range f a (suc n) = rw (add-one a, any_range f (suc a) n, or_pick (f a) (any f (suc a) n)) refl
+
+-- `(a..b).any(..)`
+pub any_passed : {F : Type 0} {g : Mut F (ℕ × Unit {0}) Bool} {s u : Range ℕ} {e : F} {r : Bool} (f : ℕ → Bool) (a b n : ℕ) → ChecksAny nat_range_steps g s e r u → s ≡ record { start = a; end = b } → b - a ≡ n
+    → ((x : ℕ) (t : Bool) (q : F) → Called g e (x, tt) t q → (q ≡ e) × (t ≡ f x)) → r ≡ any f a n
+any_passed {u = u} {e = e} {r = r} f a b n ran made size says = any_from_yields_List f u e r ran (YieldsList-from_range a b n made size) says ∙ any_range f a n
