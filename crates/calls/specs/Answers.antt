@@ -1,13 +1,12 @@
 -- The number, place and values of each public call's answer, as the record's answer. Assumes nothing.
 use Rattle.std.specs.Prelude.{◌≡◌, List, [], ℕ, length, take, replicate, Ok, Err, Result, ⊤}
 use Rattle.laws.specs.Padded.{padded}
-use Rattle.record.specs.Record.{Call, list, find, page, put, remove, salvage, Answer, entry, valued, paged, done, refused_by, Outcome, Judged}
+use Rattle.record.specs.Record.{Call, list, find, page, put, remove, salvage, Answer, entry, valued, paged, done, refused_by, Outcome}
 use Rattle.laws.specs.declared.Refusal.{Refusal}
 use Rattle.rules.specs.Check.{came}
 use Rattle.pages.specs.Cost.{no_cost}
 use Rattle.calls.specs.declared.Metered.{Metered}
 use Rattle.calls.specs.declared.Entry.{Entry}
-use Rattle.laws.specs.Refusals.{Counted}
 use Rattle.calls.specs.declared.Piece.{Piece}
 
 -- Find's and put's slot, salvage's count.

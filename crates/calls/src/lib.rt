@@ -83,13 +83,17 @@ fn slot_named(image: &[u8], layout: layout::Layout, name: &[u8], letter: u8) -> 
     ensures { result ≡ slot_of layout (files_in layout image.now) name.now letter }
 {
     let area = names::area_of(layout, name);
-    let low = slots::key(&area, 0);
-    let high = slots::key(&area, 8);
-    slots::find_keys(image, layout, low, high, letter)
+    let keys = slots::Keys::of(&area, 0, letter);
+    slots::find_keys(image, layout, keys)
 }
 
 // How find and remove are judged on an accepted image: 11, 10.
-fn judge_name(image: &[u8], layout: layout::Layout, name: &[u8], letter: u8) -> Result<usize, Refusal>
+fn judge_name(
+    image: &[u8],
+    layout: layout::Layout,
+    name: &[u8],
+    letter: u8,
+) -> Result<usize, Refusal>
     requires { LayoutRight layout × DiskRules layout image.now }
     ensures { result ≡ judge_name layout (files_in layout image.now) name.now letter }
 {
@@ -187,11 +191,7 @@ fn page_slot(
 pub fn list(image: &[u8], slot: usize) -> Result<Entry, Refusal>
     ensures { Lists image.now (call_of image.now (list_call slot)) result }
 {
-    let Accepted {
-        kind,
-        density,
-        ..
-    } = disk::check(image)?;
+    let Accepted { kind, density, .. } = disk::check(image)?;
     let layout = layout::layout_of(kind, density);
     list_slot(image, layout, slot)
 }
@@ -200,11 +200,7 @@ pub fn list(image: &[u8], slot: usize) -> Result<Entry, Refusal>
 pub fn find(image: &[u8], name: &[u8], letter: u8) -> Result<usize, Refusal>
     ensures { came (found_of result) [] image.now ≡ call_of image.now (find_call name.now letter) }
 {
-    let Accepted {
-        kind,
-        density,
-        ..
-    } = disk::check(image)?;
+    let Accepted { kind, density, .. } = disk::check(image)?;
     let layout = layout::layout_of(kind, density);
     judge_name(image, layout, name, letter)
 }
@@ -213,11 +209,7 @@ pub fn find(image: &[u8], name: &[u8], letter: u8) -> Result<usize, Refusal>
 pub fn page(image: &[u8], slot: usize, offset: usize, out: &mut [u8]) -> Result<Piece, Refusal>
     ensures { came (paged_of result) out.new image.now ≡ call_of image.now (page_call slot offset out.old) }
 {
-    let Accepted {
-        kind,
-        density,
-        ..
-    } = disk::check(image)?;
+    let Accepted { kind, density, .. } = disk::check(image)?;
     let layout = layout::layout_of(kind, density);
     page_slot(image, layout, slot, offset, out).paged
 }
@@ -257,11 +249,7 @@ pub fn put(image: &mut [u8], name: &[u8], letter: u8, content: &[u8]) -> Result<
 pub fn remove(image: &mut [u8], name: &[u8], letter: u8) -> Result<(), Refusal>
     ensures { came (removed_of result) [] image.new ≡ call_of image.old (remove_call name.now letter) }
 {
-    let Accepted {
-        kind,
-        density,
-        ..
-    } = disk::check(image)?;
+    let Accepted { kind, density, .. } = disk::check(image)?;
     let layout = layout::layout_of(kind, density);
     let slot = judge_name(image, layout, name, letter)?;
     changes::remove_slot(image, layout, slot);
@@ -269,7 +257,11 @@ pub fn remove(image: &mut [u8], name: &[u8], letter: u8) -> Result<(), Refusal>
 }
 
 // The salvage run on an image of a known layout: 21.
-fn salvage_known(image: &mut [u8], layout: layout::Layout, report: &mut [u8]) -> Result<usize, Refusal>
+fn salvage_known(
+    image: &mut [u8],
+    layout: layout::Layout,
+    report: &mut [u8],
+) -> Result<usize, Refusal>
     requires { LayoutRight layout × (length image.old ≡ image_length layout) }
     ensures { came (found_of result) report.new image.new ≡ salvage_as layout image.old report.old }
 {

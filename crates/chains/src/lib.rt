@@ -21,16 +21,7 @@ pub fn system_fault(head: &[u8], layout: layout::Layout) -> Option<usize>
     requires { LayoutRight layout × (block_offset layout.first ≤ length head.now) }
     ensures { result ≡ lowest (bad_system layout (view_of layout (bytes head.now))) 0 layout.system }
 {
-    let end = layout.system;
-    let reserved = layout.reserved;
-    let mut block = 0;
-    while block < end {
-        if map::map_at(head, block) != reserved {
-            return Some(block);
-        }
-        block += 1;
-    }
-    None
+    (0..layout.system).find(|&block| map::map_at(head, block) != layout.reserved)
 }
 
 // How many blocks of a slot's chain come after the first.
@@ -38,15 +29,11 @@ pub fn links_of(head: &[u8], layout: layout::Layout, slot: usize) -> usize
     requires { slot_offset layout slot + 24 ≤ length head.now }
     ensures { result ≡ links_for ((view_of layout (bytes head.now)).entry slot).size }
 {
-    let size = slots::size_of(head, layout, slot);
-    if size == 0 {
-        return 0;
-    }
-    (size - 1) / 1024
+    slots::size_of(head, layout, slot).saturating_sub(1) / 1024
 }
 
 // The lowest slot whose chain has a fault, refused by the chain's first one (6 or 7). The marks are left as those of all chains where
-// there is none.
+// there is none. The loop over the slots counts by hand: its form is fixed (a labelled break yields the fault), and no `for` yields a value.
 fn chain_fault(head: &[u8], layout: layout::Layout, marks: &mut [bool; 1600]) -> Result<(), Refusal>
     requires { LayoutRight layout × (block_offset layout.first ≤ length head.now) × (marks.old ≡ replicate 1600 false) }
     ensures { Followed layout (view_of layout (bytes head.now)) marks.new result }
@@ -93,16 +80,11 @@ fn count_chained(head: &[u8], layout: layout::Layout) -> usize
     requires { LayoutRight layout × (block_offset layout.first ≤ length head.now) × (lowest (broken layout (view_of layout (bytes head.now))) 0 layout.slots ≡ None) }
     ensures { result ≡ length (owned (view_of layout (bytes head.now)) layout.slots) }
 {
-    let end = layout.slots;
     let mut blocks = 0;
-    let mut next = 0;
-    while next < end {
-        let slot = next;
-        next += 1;
-        if !slots::is_used(head, layout, slot) {
-            continue;
+    for slot in 0..layout.slots {
+        if slots::is_used(head, layout, slot) {
+            blocks += links_of(head, layout, slot) + 1;
         }
-        blocks = blocks + links_of(head, layout, slot) + 1;
     }
     blocks
 }
@@ -112,17 +94,13 @@ fn count_marked(layout: layout::Layout, marks: &[bool; 1600]) -> usize
     requires { LayoutRight layout }
     ensures { result ≡ count (λ b. get_or marks.now b false) layout.first (layout.blocks - layout.first) }
 {
-    let first = layout.first;
-    let end = layout.blocks;
     let mut marked = 0u16;
-    let mut block = first;
-    while block < end {
-        if marks[block] {
+    for &mark in &marks[layout.first..layout.blocks] {
+        if mark {
             marked += 1;
         }
-        block += 1;
     }
-    marked as usize
+    usize::from(marked)
 }
 
 // The lowest slot whose chain shares a block with a lower slot's, by walking the chains in turn: its own comes upon a block marked before.
@@ -130,11 +108,7 @@ fn share_fault(head: &[u8], layout: layout::Layout, marks: &mut [bool; 1600]) ->
     requires { LayoutRight layout × (block_offset layout.first ≤ length head.now) × (lowest (broken layout (view_of layout (bytes head.now))) 0 layout.slots ≡ None) × (marks.old ≡ replicate 1600 false) }
     ensures { result ≡ lowest (sharing layout (view_of layout (bytes head.now))) 0 layout.slots }
 {
-    let end = layout.slots;
-    let mut next = 0;
-    while next < end {
-        let slot = next;
-        next += 1;
+    for slot in 0..layout.slots {
         if !slots::is_used(head, layout, slot) {
             continue;
         }
@@ -165,10 +139,7 @@ fn is_stray(head: &[u8], layout: layout::Layout, marks: &[bool; 1600], block: us
     requires { (map_offset block + 2 ≤ length head.now) × (block < 1600) × Marks 1600 marks.now (owned (view_of layout (bytes head.now)) layout.slots) }
     ensures { result ≡ stray layout (view_of layout (bytes head.now)) block }
 {
-    if map::map_at(head, block) == 0 {
-        return false;
-    }
-    !marks[block]
+    map::map_at(head, block) != 0 && !marks[block]
 }
 
 // The lowest data block with a nonzero map value that is on no chain (refusal 9); the marks are those of all chains.
@@ -176,16 +147,7 @@ fn stray_fault(head: &[u8], layout: layout::Layout, marks: &[bool; 1600]) -> Opt
     requires { LayoutRight layout × (block_offset layout.first ≤ length head.now) × Marks 1600 marks.now (owned (view_of layout (bytes head.now)) layout.slots) }
     ensures { result ≡ lowest (stray layout (view_of layout (bytes head.now))) layout.first (layout.blocks - layout.first) }
 {
-    let first = layout.first;
-    let last = layout.blocks - 1;
-    let mut block = first;
-    while block <= last {
-        if is_stray(head, layout, marks, block) {
-            return Some(block);
-        }
-        block += 1;
-    }
-    None
+    (layout.first..layout.blocks).find(|&block| is_stray(head, layout, marks, block))
 }
 
 // The number of free blocks. Counted in 16 bits, so that the compiler adds eight at a time.
@@ -193,16 +155,13 @@ fn count_free(head: &[u8], layout: layout::Layout) -> usize
     requires { LayoutRight layout × (block_offset layout.first ≤ length head.now) }
     ensures { result ≡ free_count layout (map_at (bytes head.now)) }
 {
-    let end = layout.blocks;
     let mut free = 0u16;
-    let mut block = layout.first;
-    while block < end {
+    for block in layout.first..layout.blocks {
         if map::map_at(head, block) == 0 {
             free += 1;
         }
-        block += 1;
     }
-    free as usize
+    usize::from(free)
 }
 
 // The lowest data block with a nonzero map value that is on no chain (refusal 9). Where the marked and the free blocks are all, there is none.

@@ -73,17 +73,15 @@ fn known_kind(head: &[u8], density: Density) -> Result<Format, Refusal>
     if slots::is_passed_over(head) {
         return second_kind(density);
     }
-    let s900 = Kind::S900;
-    if slots::has_identity(head, layout::layout_of(s900, density)) {
+    if slots::has_identity(head, layout::layout_of(Kind::S900, density)) {
         return Ok(Format {
-            kind: s900,
+            kind: Kind::S900,
             density,
         });
     }
-    let s1000 = Kind::S1000;
-    if slots::has_identity(head, layout::layout_of(s1000, density)) {
+    if slots::has_identity(head, layout::layout_of(Kind::S1000, density)) {
         return Ok(Format {
-            kind: s1000,
+            kind: Kind::S1000,
             density,
         });
     }
@@ -97,13 +95,11 @@ pub fn known(head: &[u8], length: usize) -> Result<Format, Refusal>
     if head.len() < 17408 {
         return Err(Refusal::WrongLength);
     }
-    let low = Density::Low;
-    if length == layout::image_length(low) {
-        return known_kind(head, low);
+    if length == layout::image_length(Density::Low) {
+        return known_kind(head, Density::Low);
     }
-    let high = Density::High;
-    if length == layout::image_length(high) {
-        return known_kind(head, high);
+    if length == layout::image_length(Density::High) {
+        return known_kind(head, Density::High);
     }
     Err(Refusal::WrongLength)
 }

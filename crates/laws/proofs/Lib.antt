@@ -1,2 +1,3 @@
 pub mod Lemmas
 pub mod Tests
+pub mod Ranges

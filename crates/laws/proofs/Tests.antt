@@ -16,7 +16,7 @@ use Rattle.std.specs.Ordering.{partial_le, partial_lt, nat_cmp}
 use Rattle.laws.specs.Lists.{all_of}
 use Rattle.laws.specs.Truth.{both, within}
 
-and_both : (a b : Bool) → (a && b) ≡ both a b
+pub and_both : (a b : Bool) → (a && b) ≡ both a b
 and_both true b = refl
 and_both false b = refl
 

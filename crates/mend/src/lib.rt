@@ -17,23 +17,18 @@ ghost use Rattle.slots.specs.Keys.{has_keys};
 ghost use Rattle.salvage.specs.Salvage.{drops, disk_after, report_of, survivors, erase_slots, wrong_system, salvage_image, map_changes, report_after};
 ghost use Rattle.mend.specs.Steps.{is_kept, kept_name, name_note, used_end, Reported, chain_said, Noted, is_dropped, is_lost, Judging};
 
-// Whether a slot is kept, its name's two halves have these keys and its type is this one. Few names are alike, so the keys are asked first.
+// Whether a slot is kept, and its name and type have these keys. Few names are alike, so the keys are asked first.
 fn kept_with(
     image: &[u8],
     layout: layout::Layout,
     report: &[u8],
     slot: usize,
-    low: usize,
-    high: usize,
-    letter: u8,
+    keys: slots::Keys,
 ) -> bool
     requires { (slot_offset layout slot + 24 ≤ length image.now) × (slot < length report.now) }
-    ensures { result ≡ both (is_kept report.now slot) (has_keys layout (bytes image.now) slot low high letter) }
+    ensures { result ≡ both (is_kept report.now slot) (has_keys layout (bytes image.now) slot keys.low keys.high keys.letter) }
 {
-    if !slots::has_keys(image, layout, slot, low, high, letter) {
-        return false;
-    }
-    report[slot] == 1
+    slots::has_keys(image, layout, slot, keys) && report[slot] == 1
 }
 
 // Whether a kept slot below has a slot's name and type; the report says which are kept. Keys and type are read once.
@@ -41,18 +36,8 @@ fn name_kept(image: &[u8], layout: layout::Layout, report: &[u8], slot: usize) -
     requires { (slot_offset layout slot + 24 ≤ length image.now) × (slot ≤ length report.now) }
     ensures { result ≡ any (kept_name layout (view_of layout (bytes image.now)) report.now slot) 0 slot }
 {
-    let at = layout.directory + 24 * slot;
-    let low = slots::key(image, at);
-    let high = slots::key(image, at + 8);
-    let letter = slots::type_of(image, layout, slot);
-    let mut lower = 0;
-    while lower < slot {
-        if kept_with(image, layout, report, lower, low, high, letter) {
-            return true;
-        }
-        lower += 1;
-    }
-    false
+    let keys = slots::Keys::of_slot(image, layout, slot);
+    (0..slot).any(|lower| kept_with(image, layout, report, lower, keys))
 }
 
 // Whether a kept slot below has a slot's name and type. They are gone through only where a used one has them.
@@ -214,13 +199,10 @@ fn note_names(image: &[u8], layout: layout::Layout, report: &mut [u8], end: usiz
     ensures { Reported (name_note layout (view_of layout (bytes image.now))) report.old report.new layout.slots }
 {
     let rest = layout.slots - end;
-    let mut tops = [0u16; 1009];
-    let mut lowers = [0u16; 512];
-    let mut slot = 0;
-    while slot < end {
-        let twice = slots::repeats(image, layout, &mut tops, &mut lowers, slot);
+    let mut table = slots::Table::new();
+    for slot in 0..end {
+        let twice = table.repeats(image, layout, slot);
         report[slot] = note_of(twice);
-        slot += 1;
     }
     blocks::clear(report, end, rest);
 }

@@ -13,4 +13,4 @@ area_of-area-requires c =
 pub returns : goal.returns
 returns c =
     found_slot c.args.layout c.requires.0 c.args.image.now c.requires.1 c.args.name.now c.args.letter c.requires.2 (λ i. omega (arith, c.shared_slice_known-1.given i))
-    c.area_of-area.ensures c.key-low.ensures c.key-high.ensures c.find_keys.ensures
+    c.area_of-area.ensures c.of-keys.ensures c.find_keys.ensures

@@ -10,7 +10,7 @@ use Rattle.record.specs.Step.{step_image}
 use Rattle.laws.specs.declared.Refusal.{Refusal}
 use Rattle.rules.specs.Check.{check_of, came, unaccepted, call_of, Checked, accepting}
 use Rattle.calls.specs.declared.Metered.{Metered}
-use Rattle.calls.specs.Answers.{paged_of, Lists, unpaged_by, Listed}
+use Rattle.calls.specs.Answers.{paged_of, Lists, unpaged_by}
 use Rattle.calls.specs.Metered.{cost_in}
 
 -- ---- by the check's answer

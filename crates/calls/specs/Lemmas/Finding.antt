@@ -21,7 +21,8 @@ use Rattle.view.specs.Disk.{used, has_name, files_of, Used}
 use Rattle.view.specs.Lemmas.Formed.{formed-parts, type_some}
 use Rattle.view.specs.Lemmas.Namesakes.{empty_unnamed}
 use Rattle.image.specs.Image.{view_of, files_in, DiskRules}
-use Rattle.slots.specs.Keys.{Key, has_keys}
+use Rattle.slots.specs.Keys.{Keyed, has_keys}
+use Rattle.slots.specs.declared.Keys.{Keys}
 use Rattle.slots.specs.Lemmas.Keys.{keys_area}
 use Rattle.record.specs.Record.{Files, refuse, is_legal, named, slot_of, judge_name}
 use Rattle.record.specs.Order.{order_illegal, order_missing, order_found}
@@ -67,12 +68,13 @@ module _ (l : Layout) (right : LayoutRight l) (img : List ℕ) (rules : DiskRule
       let n : length area ≡ 16 = ap length is ∙ length-area l right name (both_true (legal_name l name) (legal_type l type) legal).0 in
       ap (tab (bytes area) 0) (sym n) ∙ tab_is (bytes area) 0 area (λ k p. ap (bytes area) (zero-add k)) ∙ is
 
-  pub found_slot : {area : List ℕ} {low high : ℕ} {r : Lowest} → ((k : ℕ) → bytes img k < 256) → area ≡ area_of l name → Key (bytes area) 0 low → Key (bytes area) 8 high
-      → r ≡ lowest (λ s. has_keys l (bytes img) s low high type) 0 l.slots → r ≡ slot_of l (files_in l img) name type
-  found_slot {area} {low} {high} small is front back found =
-      (found ∙ lowest_cong (λ s. has_keys l (bytes img) s low high type) (λ s. has_name (area_of l name) type ((view_of l (bytes img)).entry s)) 0 l.slots
+  pub found_slot : {area : List ℕ} {k : Keys} {r : Lowest} → ((i : ℕ) → bytes img i < 256) → area ≡ area_of l name → Keyed (bytes area) 0 type k
+      → r ≡ lowest (λ s. has_keys l (bytes img) s k.low k.high k.letter) 0 l.slots → r ≡ slot_of l (files_in l img) name type
+  found_slot {area} {k} small is keyed found =
+      (found ∙ lowest_cong (λ s. has_keys l (bytes img) s k.low k.high k.letter) (λ s. has_name (area_of l name) type ((view_of l (bytes img)).entry s)) 0 l.slots
       (λ s p q.
-      keys_area l (bytes area) (bytes img) 0 s type front.small small front.value back.value
+      ap (has_keys l (bytes img) s k.low k.high) keyed.letter
+      ∙ keys_area l (bytes area) (bytes img) 0 s type keyed.small small keyed.low keyed.high
       ∙ ap (λ (a : List ℕ). has_name a type ((view_of l (bytes img)).entry s)) (whole is)))
       ∙ sym (slot_is l right img rules name type legal)
 

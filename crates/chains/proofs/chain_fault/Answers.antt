@@ -5,10 +5,8 @@ use Rattle.std.proofs.Math.Nat.{sub-zero}
 use Rattle.blocks.specs.Blocks.{links_for}
 use Rattle.chains.specs.Lemmas.Tally.{empty_marks, chain_marks}
 use Rattle.chains.specs.Passes.{Followed}
-use Rattle.image.specs.Image.{view_of}
 use Rattle.laws.specs.Lemmas.Scan.{lowest_end, lowest_stop, lowest-on}
 use Rattle.laws.specs.Lemmas.Truth.{true_both, false_both}
-use Rattle.laws.specs.Reader.{bytes}
 use Rattle.laws.specs.Refusals.{refusal_at}
 use Rattle.laws.specs.Scan.{lowest}
 use Rattle.layout.specs.Right.{LayoutRight}
@@ -17,11 +15,11 @@ use Rattle.map.specs.Lemmas.Chains.{chain_data}
 use Rattle.map.specs.Lemmas.Marks.{marks_none, mark_last, mark_next}
 use Rattle.map.specs.Lemmas.Walks.{link_data, walk_bad, walk_whole, walk-over, walk_cut, walk-on}
 use Rattle.map.proofs.Lemmas.Walks.{walk_chained}
-use Rattle.map.specs.Map.{map_at, is_link, chain, Chained, Walk, Whole, Bad, Cut, walk, is_whole, fault_of, marked, Marks}
+use Rattle.map.specs.Map.{chain, Chained, Walk, Whole, Bad, Cut, walk, is_whole, fault_of, marked, Marks}
 use Rattle.view.specs.Disk.{View, used, owned}
-use Rattle.view.specs.Rules.{walk_of, broken, or_fail}
+use Rattle.view.specs.Rules.{walk_of, broken}
 use Rattle.chains.proofs.chain_fault.Goals as goal
-use Rattle.std.specs.Prelude.{Ok, Some, Err}
+use Rattle.std.specs.Prelude.{Some, Err}
 
 -- ---- a slot's walk and the search's test
 
@@ -39,12 +37,12 @@ module _ (l : Layout) (v : View) (s : ℕ) where
   whole_sound e = false_both (used (v.entry s)) (not (is_whole (walk_of l v s))) (λ u. ap (λ (w : Walk). not (is_whole w)) e)
 
   -- the lowest slot whose walk is not whole is the fault, by the refusal of its walk
-  stop_at : (n : ℕ) (w : Walk) → s < n → used (v.entry s) ≡ true → walk_of l v s ≡ w → is_whole w ≡ false → lowest (broken l v) 0 n ≡ lowest (broken l v) s (n - s)
-      → Err (refusal_at (fault_of w) s) ≡ or_fail (λ t. fault_of (walk_of l v t)) (lowest (broken l v) 0 n) (Ok tt)
-  stop_at n w h u e f i =
+  stopped : (w : Walk) → s < l.slots → used (v.entry s) ≡ true → walk_of l v s ≡ w → is_whole w ≡ false → lowest (broken l v) 0 l.slots ≡ lowest (broken l v) s (l.slots - s)
+      → (ms : List Bool) → Followed l v ms (Err (refusal_at (fault_of w) s))
+  stopped w h u e f i ms =
       let bad : broken l v s ≡ true = unfold broken in true_both (used (v.entry s)) (not (is_whole (walk_of l v s))) u (ap (λ (x : Walk). not (is_whole x)) e ∙ ap not f) in
-      let found : lowest (broken l v) 0 n ≡ Some s = i ∙ lowest_stop (broken l v) s n h bad in
-      rw (found, e)
+      let found : lowest (broken l v) 0 l.slots ≡ Some s = i ∙ lowest_stop (broken l v) s l.slots h bad in
+      record { fault = rw (found, e); marks_all = λ p. let z : ◌≡◌ {A = ℕ} 0 1 = cc in absurd (omega arith) }
 
   -- with a faultless chain's they are the marks of one slot more
   whole_marks : LayoutRight l → (k b : ℕ) → used (v.entry s) ≡ true → k ≡ links_for (v.entry s).size → b ≡ (v.entry s).start → walk_of l v s ≡ Whole
@@ -53,9 +51,7 @@ module _ (l : Layout) (v : View) (s : ℕ) where
       let c : Chained l v.map k b = walk_chained l v.map k b (sym (walk_starts k b x y) ∙ w) in
       chain_marks v s u k b x y (λ i h. omega (arith, (chain_data l right v.map k b i c h).1, right.blocks_most)) ms m
 
--- ---- the slots
-
--- ---- a chain's blocks
+-- ---- the goals
 
 pub slots-init : goal.slots-init
 unfolding owned
@@ -80,17 +76,17 @@ returns-then-end-next c =
 
 pub bounds-marks-block : goal.bounds-marks-block
 bounds-marks-block c =
-    let linked : (is_link c.args.layout c.loop-layout.block ≡ true) = sym c.is_link.ensures ∙ c.if-not-is_link.false in
+    let linked = sym c.is_link.ensures ∙ c.if-not-is_link.false in
     omega (arith, (link_data _ _ linked).1, c.requires.0.blocks_most)
 
 pub map_at-value-requires : goal.map_at-value-requires
 map_at-value-requires c =
-    let linked : (is_link c.args.layout c.loop-layout.block ≡ true) = sym c.is_link.ensures ∙ c.if-not-is_link.false in
+    let linked = sym c.is_link.ensures ∙ c.if-not-is_link.false in
     omega (arith, (link_data _ _ linked).1)
 
 pub slots-preserved : goal.slots-preserved
 slots-preserved c =
-    let linked : (is_link c.args.layout c.loop-layout.block ≡ true) = sym c.is_link.ensures ∙ c.if-not-is_link.false in
+    let linked = sym c.is_link.ensures ∙ c.if-not-is_link.false in
     let i = c.slots.invariant in
     let w = c.loop-layout.invariant.0 ∙ walk_whole _ _ _ _ _ linked c.map_at-value.ensures c.if-left-eq0.true c.if-value-mark.true in
     let used_is = sym c.is_used.ensures ∙ c.if-not-is_used.false in
@@ -99,23 +95,20 @@ slots-preserved c =
 
 pub loop-layout-preserved : goal.loop-layout-preserved
 loop-layout-preserved c =
-    let linked : (is_link c.args.layout c.loop-layout.block ≡ true) = sym c.is_link.ensures ∙ c.if-not-is_link.false in
+    let linked = sym c.is_link.ensures ∙ c.if-not-is_link.false in
     let i = c.loop-layout.invariant in
     (i.0 ∙ walk-on _ _ _ _ _ linked c.map_at-value.ensures c.if-left-eq0.false c.if-value-mark-2.false, i.1 ∙ mark_next _ _ _ _ _ c.map_at-value.ensures c.if-left-eq0.false)
 
 pub returns-then-not-is_link : goal.returns-then-not-is_link
 returns-then-not-is_link c =
-    let stopped : ((w : Walk) → (let a = c.args in let v = view_of a.layout (bytes a.head.now) in let s = c.slots.next in walk a.layout (map_at (bytes a.head.now)) c.loop-layout.left c.loop-layout.block ≡ w → is_whole w ≡ false → (ms : List Bool) → Followed a.layout v ms (Err (refusal_at (fault_of w) s)))) = λ w e f ms. record { fault = stop_at _ _ _ _ w c.if-end-next.false (sym c.is_used.ensures ∙ c.if-not-is_used.false) (c.loop-layout.invariant.0 ∙ e) f c.slots.invariant.2; marks_all = λ p. let z : ◌≡◌ {A = ℕ} 0 1 = cc in absurd (omega arith) } in
-    stopped Bad (walk_bad _ _ _ _ (sym c.is_link.ensures ∙ c.if-not-is_link.true)) refl _
+    stopped _ _ _ Bad c.if-end-next.false (sym c.is_used.ensures ∙ c.if-not-is_used.false) (c.loop-layout.invariant.0 ∙ walk_bad _ _ _ _ (sym c.is_link.ensures ∙ c.if-not-is_link.true)) refl c.slots.invariant.2 _
 
 pub returns-else-value-mark : goal.returns-else-value-mark
 returns-else-value-mark c =
-    let linked : (is_link c.args.layout c.loop-layout.block ≡ true) = sym c.is_link.ensures ∙ c.if-not-is_link.false in
-    let stopped : ((w : Walk) → (let a = c.args in let v = view_of a.layout (bytes a.head.now) in let s = c.slots.next in walk a.layout (map_at (bytes a.head.now)) c.loop-layout.left c.loop-layout.block ≡ w → is_whole w ≡ false → (ms : List Bool) → Followed a.layout v ms (Err (refusal_at (fault_of w) s)))) = λ w e f ms. record { fault = stop_at _ _ _ _ w c.if-end-next.false (sym c.is_used.ensures ∙ c.if-not-is_used.false) (c.loop-layout.invariant.0 ∙ e) f c.slots.invariant.2; marks_all = λ p. let z : ◌≡◌ {A = ℕ} 0 1 = cc in absurd (omega arith) } in
-    stopped Cut (walk-over _ _ _ _ _ linked c.map_at-value.ensures c.if-left-eq0.true c.if-value-mark.false) refl _
+    let linked = sym c.is_link.ensures ∙ c.if-not-is_link.false in
+    stopped _ _ _ Cut c.if-end-next.false (sym c.is_used.ensures ∙ c.if-not-is_used.false) (c.loop-layout.invariant.0 ∙ walk-over _ _ _ _ _ linked c.map_at-value.ensures c.if-left-eq0.true c.if-value-mark.false) refl c.slots.invariant.2 _
 
 pub returns-then-value-mark-2 : goal.returns-then-value-mark-2
 returns-then-value-mark-2 c =
-    let linked : (is_link c.args.layout c.loop-layout.block ≡ true) = sym c.is_link.ensures ∙ c.if-not-is_link.false in
-    let stopped : ((w : Walk) → (let a = c.args in let v = view_of a.layout (bytes a.head.now) in let s = c.slots.next in walk a.layout (map_at (bytes a.head.now)) c.loop-layout.left c.loop-layout.block ≡ w → is_whole w ≡ false → (ms : List Bool) → Followed a.layout v ms (Err (refusal_at (fault_of w) s)))) = λ w e f ms. record { fault = stop_at _ _ _ _ w c.if-end-next.false (sym c.is_used.ensures ∙ c.if-not-is_used.false) (c.loop-layout.invariant.0 ∙ e) f c.slots.invariant.2; marks_all = λ p. let z : ◌≡◌ {A = ℕ} 0 1 = cc in absurd (omega arith) } in
-    stopped Cut (walk_cut _ _ _ _ _ linked c.map_at-value.ensures c.if-left-eq0.false c.if-value-mark-2.true) refl _
+    let linked = sym c.is_link.ensures ∙ c.if-not-is_link.false in
+    stopped _ _ _ Cut c.if-end-next.false (sym c.is_used.ensures ∙ c.if-not-is_used.false) (c.loop-layout.invariant.0 ∙ walk_cut _ _ _ _ _ linked c.map_at-value.ensures c.if-left-eq0.false c.if-value-mark-2.true) refl c.slots.invariant.2 _

@@ -1,13 +1,10 @@
 -- `chains::count_chained` meets its contract: the blocks counted are those of the slots below.
 -- No chain is broken, so each is short, and a slot adds its links and one. Assumes nothing.
-use Rattle.std.proofs.Common.{◌≡◌, ◌-◌, ◌*◌, ◌≤◌, length}
+use Rattle.std.proofs.Common.{◌≡◌, ◌*◌, ◌≤◌, length}
 use Rattle.image.specs.Image.{view_of}
 use Rattle.laws.specs.Reader.{bytes}
 use Rattle.view.specs.Disk.{owned}
 use Rattle.chains.proofs.count_chained.Given as goal
 
-abbrev pub invariant-loop-next : goal.invariant-loop-next
-invariant-loop-next l = (l.next ≤ l.end) × (l.blocks ≡ length (owned (view_of l.layout (bytes l.head)) l.next)) × (l.blocks ≤ 1600 * l.next)
-
-abbrev pub decreases-loop-next : goal.decreases-loop-next
-decreases-loop-next l = l.end - l.next
+abbrev pub invariant-loop-slot : goal.invariant-loop-slot
+invariant-loop-slot l = (l.blocks ≡ length (owned (view_of l.layout (bytes l.head)) l.slot)) × (l.blocks ≤ 1600 * l.slot)

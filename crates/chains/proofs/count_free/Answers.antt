@@ -11,10 +11,7 @@ pub loop-block-preserved : goal.loop-block-preserved
 loop-block-preserved c =
     let free = is_free c.args.head.now in
     let e = c.map_at.ensures in
-    elim c.if-map_at-eq0.branch [ then-map_at-eq0 w ↦ (omega arith, omega arith, omega (arith, count_stop free _ _ c.loop-block-test.true (eq-eqb _ _ (sym e ∙ w.if-map_at-eq0.true)))) | else-map_at-eq0 w ↦ (omega arith, omega arith, omega (arith, count-on free _ _ c.loop-block-test.true (ne_eqb _ _ (λ z. w.if-map_at-eq0.false (e ∙ z))))) ]
-
-pub overflow_cast-result : goal.overflow_cast-result
-overflow_cast-result c = omega (arith, c.requires.0.blocks_most)
+    elim c.if-map_at-eq0.branch [ then-map_at-eq0 w ↦ (omega arith, omega (arith, count_stop free _ _ c.loop-block-test.true (eq-eqb _ _ (sym e ∙ w.if-map_at-eq0.true)))) | else-map_at-eq0 w ↦ (omega arith, omega (arith, count-on free _ _ c.loop-block-test.true (ne_eqb _ _ (λ z. w.if-map_at-eq0.false (e ∙ z))))) ]
 
 pub returns : goal.returns
 unfolding free_count

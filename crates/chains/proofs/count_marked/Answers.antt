@@ -1,22 +1,49 @@
 -- `chains::count_marked` meets its contract: the marked blocks counted and those of the blocks left are all of them.
 -- Each turn is one law of a count. Assumes nothing.
-use Rattle.chains.proofs.count_marked.Invariants.{is_marked}
-use Rattle.chains.proofs.count_marked.Goals.{then-marks-block, else-marks-block}
-use Rattle.std.proofs.Common.{◌-◌, arith}
-use Rattle.laws.specs.Lemmas.Scan.{count_end, count_stop, count-on, count_split}
+use Rattle.std.proofs.Common.{◌≡◌, sym, ◌∙◌, List, Bool, true, false, ℕ, ◌+◌, ◌-◌, ◌<◌, ◌≤◌, arith, length, take, drop, get_or, get_or-take, get_or-drop, length-take, length-drop}
+use Rattle.chains.proofs.count_marked.Invariants.{Counting, is_marked}
+use Rattle.laws.specs.Lemmas.Scan.{count_end, count_stop, count-on}
+use Rattle.layout.specs.declared.Layout.{Layout}
+use Rattle.chains.proofs.count_marked.Goals.{then-mark, else-mark}
 use Rattle.chains.proofs.count_marked.Goals as goal
 
-pub bounds-marks-block : goal.bounds-marks-block
-bounds-marks-block c = omega (arith, c.loop-block-test.true, c.requires.blocks_most)
+-- the marks of the data blocks are lent
+lent_size : (ms : List Bool) (first n : ℕ) → first + n ≤ length ms → length (take n (drop first ms)) ≡ n
+lent_size ms first n h = omega (arith, length-take n (drop first ms), length-drop first ms)
 
-pub loop-block-preserved : goal.loop-block-preserved
-loop-block-preserved c =
-    let f = is_marked c.args.marks.now in
-    elim c.if-marks-block.branch [ then-marks-block w ↦ (omega arith, omega (arith, count_stop f _ _ c.loop-block-test.true w.if-marks-block.true)) | else-marks-block w ↦ (omega arith, omega (arith, count-on f _ _ c.loop-block-test.true w.if-marks-block.false)) ]
+module _ (l : Layout) (ms : List Bool) (marked i : ℕ) (c : Counting l ms marked i) (low : i < length (take (l.blocks - l.first) (drop l.first ms))) (held : l.blocks ≤ length ms) where
+  below : l.first + i < l.blocks
+  below = omega (arith, length-take (l.blocks - l.first) (drop l.first ms))
 
-pub overflow_cast-result : goal.overflow_cast-result
-overflow_cast-result c =
-    omega (arith, c.requires.blocks_most, count_split (is_marked c.args.marks.now) c.args.layout.first (c.args.layout.blocks - c.args.layout.first))
+  next : l.first + (i + 1) ≡ l.first + i + 1
+  next = omega arith
+
+  lent-mark : get_or (take (l.blocks - l.first) (drop l.first ms)) i false ≡ is_marked ms (l.first + i)
+  lent-mark = get_or-take (l.blocks - l.first) (drop l.first ms) i false (omega (arith, below)) ∙ get_or-drop l.first ms i false
+
+  one_more : get_or (take (l.blocks - l.first) (drop l.first ms)) i false ≡ true → Counting l ms (marked + 1) (i + 1)
+  one_more t = (omega (arith, c.0), rw next (omega (arith, c.1, count_stop (is_marked ms) (l.first + i) l.blocks below (sym lent-mark ∙ t))))
+
+  no_more : get_or (take (l.blocks - l.first) (drop l.first ms)) i false ≡ false → Counting l ms marked (i + 1)
+  no_more t = (omega (arith, c.0), rw next (omega (arith, c.1, count-on (is_marked ms) (l.first + i) l.blocks below (sym lent-mark ∙ t))))
+
+pub loop-mark-init : goal.loop-mark-init
+loop-mark-init c =
+    let z : c.args.layout.first + 0 ≡ c.args.layout.first = omega arith in
+    (omega arith, rw z (omega arith))
+
+pub overflow_add-marked : goal.overflow_add-marked
+overflow_add-marked c = omega (arith, c.requires.blocks_most, c.loop-mark.invariant.0, below c.args.layout c.args.marks.now _ _ c.loop-mark.invariant c.loop-mark-test.true (omega (arith, c.requires.blocks_most)))
+
+pub loop-mark-preserved : goal.loop-mark-preserved
+loop-mark-preserved c =
+    let held : c.args.layout.blocks ≤ length c.args.marks.now = omega (arith, c.requires.blocks_most) in
+    elim c.if-mark.branch [
+      | then-mark w ↦ rw w.marked-is (one_more c.args.layout _ _ _ c.loop-mark.invariant c.loop-mark-test.true held w.if-mark.true)
+      | else-mark w ↦ rw w.marked-is (no_more c.args.layout _ _ _ c.loop-mark.invariant c.loop-mark-test.true held w.if-mark.false)
+    ]
 
 pub returns : goal.returns
-returns c = omega (arith, count_end (is_marked c.args.marks.now) _ _ c.loop-block-test.false)
+returns c =
+    let l = c.args.layout in
+    omega (arith, c.from.ensures, c.loop-mark.invariant.1, count_end (is_marked c.args.marks.now) (l.first + c.loop-mark.mark-index) l.blocks (omega (arith, lent_size c.args.marks.now l.first (l.blocks - l.first) (omega (arith, c.requires.blocks_most)))))

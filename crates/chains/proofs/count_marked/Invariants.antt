@@ -2,13 +2,15 @@
 -- Each turn is one law of a count. Assumes nothing.
 use Rattle.std.proofs.Common.{◌≡◌, Bool, false, List, ℕ, ◌+◌, ◌-◌, ◌≤◌, get_or}
 use Rattle.laws.specs.Scan.{count}
+use Rattle.layout.specs.declared.Layout.{Layout}
 use Rattle.chains.proofs.count_marked.Given as goal
 
 abbrev pub is_marked : List Bool → ℕ → Bool
 is_marked marks block = get_or marks block false
 
-abbrev pub invariant-loop-block : goal.invariant-loop-block
-invariant-loop-block l = (l.marked ≤ l.block) × (l.marked + count (is_marked l.marks) l.block (l.end - l.block) ≡ count (is_marked l.marks) l.initial.block (l.end - l.initial.block))
+abbrev pub Counting : Layout → List Bool → ℕ → ℕ → Type 0
+Counting l marks marked i =
+    (marked ≤ i) × (marked + count (is_marked marks) (l.first + i) (l.blocks - (l.first + i)) ≡ count (is_marked marks) l.first (l.blocks - l.first))
 
-abbrev pub decreases-loop-block : goal.decreases-loop-block
-decreases-loop-block l = l.end - l.block
+abbrev pub invariant-loop-mark : goal.invariant-loop-mark
+invariant-loop-mark l = Counting l.fn.layout l.marks l.marked l.mark-index

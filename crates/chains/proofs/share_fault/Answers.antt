@@ -1,14 +1,12 @@
 -- `chains::share_fault` meets its contract: marked are the blocks of lower slots' chains, so a slot that comes upon one shares it.
 -- No chain is broken, so each is a faultless one to walk; the slots left answer as all. Assumes nothing.
-use Rattle.std.proofs.Common.{◌≡◌, sym, ap, ◌∙◌, Bool, true, false, List, ℕ, ◌+◌, ◌<◌, arith, rules}
-use Rattle.std.proofs.Math.Nat.{sub-zero}
+use Rattle.std.proofs.Common.{◌≡◌, refl, sym, ap, ◌∙◌, Bool, true, false, List, ℕ, ◌+◌, ◌<◌, arith, rules}
 use Rattle.blocks.specs.Blocks.{links_for}
 use Rattle.chains.specs.Lemmas.Tally.{empty_marks, chain_marks, slot_chained}
-use Rattle.image.specs.Image.{view_of}
-use Rattle.laws.specs.Lemmas.Scan.{lowest_end, lowest_stop, lowest-on}
+use Rattle.laws.proofs.Lemmas.Search.{searched_found, searched_more, searched_all}
+use Rattle.laws.specs.Lemmas.Search.{searched_none}
 use Rattle.laws.specs.Lists.{meets}
 use Rattle.laws.specs.Member.{In}
-use Rattle.laws.specs.Reader.{bytes}
 use Rattle.laws.specs.Scan.{lowest}
 use Rattle.layout.specs.Right.{LayoutRight}
 use Rattle.layout.specs.declared.Layout.{Layout}
@@ -49,43 +47,41 @@ module _ (l : Layout) (v : View) (s k b : ℕ) where
   unfolding sharing
   shared_is w ms m = ap (meets (owned v s)) w.all ∙ sym (touched-meets 1600 ms (owned v s) (chain v.map k b) w.inside m)
 
-pub loop-next-init : goal.loop-next-init
+pub loop-slot-init : goal.loop-slot-init
 unfolding owned
-loop-next-init c = (search rules, rw c.requires.3 (marks_none 1600), rw sub-zero)
+loop-slot-init c = (searched_none _ _, rw c.requires.3 (marks_none 1600))
 
-pub loop-next-preserved-then-not-is_used : goal.loop-next-preserved-then-not-is_used
-loop-next-preserved-then-not-is_used c =
-    let i = c.loop-next.invariant in
-    let a = c.args in
-    let v = view_of a.layout (bytes a.head.now) in
-    let e : used (v.entry c.loop-next.next) ≡ false = sym c.is_used.ensures ∙ c.if-not-is_used.true in
-    (omega arith, empty_marks v _ e _ i.1, i.2 ∙ lowest-on _ _ _ c.loop-next-test.true (empty_apart v _ e _))
+pub loop-slot-preserved-then-not-is_used : goal.loop-slot-preserved-then-not-is_used
+loop-slot-preserved-then-not-is_used c =
+    let i = c.loop-slot.invariant in
+    let e = sym c.is_used.ensures ∙ c.if-not-is_used.true in
+    (searched_more _ _ _ i.0 c.loop-slot-test.true (sym (empty_apart _ _ e _)) refl, empty_marks _ _ e _ i.1)
 
 pub touches-requires : goal.touches-requires
 touches-requires c =
-    let walked : ((let a = c.args in Walked a.layout (view_of a.layout (bytes a.head.now)) c.loop-next.next c.links_of-links.result c.start_of-start.result)) = let p = c.requires in slot_walked _ _ _ _ _ p.0 p.2 c.loop-next-test.true (sym c.is_used.ensures ∙ c.if-not-is_used.false) c.links_of-links.ensures c.start_of-start.ensures in
-    (search rules, c.requires.0, walked.chained)
+    let p = c.requires in
+    let w = slot_walked _ _ _ _ _ p.0 p.2 c.loop-slot-test.true (sym c.is_used.ensures ∙ c.if-not-is_used.false) c.links_of-links.ensures c.start_of-start.ensures in
+    (search rules, p.0, w.chained)
 
 pub mark_chain-requires : goal.mark_chain-requires
 mark_chain-requires c =
-    let walked : ((let a = c.args in Walked a.layout (view_of a.layout (bytes a.head.now)) c.loop-next.next c.links_of-links.result c.start_of-start.result)) = let p = c.requires in slot_walked _ _ _ _ _ p.0 p.2 c.loop-next-test.true (sym c.is_used.ensures ∙ c.if-not-is_used.false) c.links_of-links.ensures c.start_of-start.ensures in
-    (search rules, c.requires.0, walked.chained)
+    let p = c.requires in
+    let w = slot_walked _ _ _ _ _ p.0 p.2 c.loop-slot-test.true (sym c.is_used.ensures ∙ c.if-not-is_used.false) c.links_of-links.ensures c.start_of-start.ensures in
+    (search rules, p.0, w.chained)
 
 pub returns-then-touches : goal.returns-then-touches
 returns-then-touches c =
-    let walked : ((let a = c.args in Walked a.layout (view_of a.layout (bytes a.head.now)) c.loop-next.next c.links_of-links.result c.start_of-start.result)) = let p = c.requires in slot_walked _ _ _ _ _ p.0 p.2 c.loop-next-test.true (sym c.is_used.ensures ∙ c.if-not-is_used.false) c.links_of-links.ensures c.start_of-start.ensures in
-    let shared : ((let a = c.args in sharing a.layout (view_of a.layout (bytes a.head.now)) c.loop-next.next ≡ c.touches.result)) = shared_is _ _ _ _ _ walked _ c.loop-next.invariant.1 ∙ sym c.touches.ensures in
-    sym (c.loop-next.invariant.2 ∙ lowest_stop _ _ _ c.loop-next-test.true (shared ∙ c.if-touches.true))
+    let p = c.requires in
+    let i = c.loop-slot.invariant in
+    let w = slot_walked _ _ _ _ _ p.0 p.2 c.loop-slot-test.true (sym c.is_used.ensures ∙ c.if-not-is_used.false) c.links_of-links.ensures c.start_of-start.ensures in
+    searched_found _ _ _ i.0 c.loop-slot-test.true (c.touches.ensures ∙ sym (shared_is _ _ _ _ _ w _ i.1)) c.if-touches.true
 
-pub loop-next-preserved : goal.loop-next-preserved
-loop-next-preserved c =
-    let walked : ((let a = c.args in Walked a.layout (view_of a.layout (bytes a.head.now)) c.loop-next.next c.links_of-links.result c.start_of-start.result)) = let p = c.requires in slot_walked _ _ _ _ _ p.0 p.2 c.loop-next-test.true (sym c.is_used.ensures ∙ c.if-not-is_used.false) c.links_of-links.ensures c.start_of-start.ensures in
-    let shared : ((let a = c.args in sharing a.layout (view_of a.layout (bytes a.head.now)) c.loop-next.next ≡ c.touches.result)) = shared_is _ _ _ _ _ walked _ c.loop-next.invariant.1 ∙ sym c.touches.ensures in
-    let i = c.loop-next.invariant in (
-      omega (arith, c.loop-next-test.true),
-      rw c.mark_chain.ensures (walked.marks _ i.1),
-      i.2 ∙ lowest-on _ _ _ c.loop-next-test.true (shared ∙ c.if-touches.false),
-    )
+pub loop-slot-preserved : goal.loop-slot-preserved
+loop-slot-preserved c =
+    let p = c.requires in
+    let i = c.loop-slot.invariant in
+    let w = slot_walked _ _ _ _ _ p.0 p.2 c.loop-slot-test.true (sym c.is_used.ensures ∙ c.if-not-is_used.false) c.links_of-links.ensures c.start_of-start.ensures in
+    (searched_more _ _ _ i.0 c.loop-slot-test.true (c.touches.ensures ∙ sym (shared_is _ _ _ _ _ w _ i.1)) c.if-touches.false, rw c.mark_chain.ensures (w.marks _ i.1))
 
 pub returns : goal.returns
-returns c = sym (c.loop-next.invariant.2 ∙ lowest_end _ _ _ c.loop-next-test.false)
+returns c = searched_all _ _ _ c.loop-slot.invariant.0 c.loop-slot-test.false

@@ -1,6 +1,6 @@
 -- `chains::stray_block` meets its contract: where the marked and the free blocks are all no other is taken, and else the blocks are searched.
 -- Of two tests that count alike the one implies the other (`tally_all`). Assumes nothing.
-use Rattle.std.proofs.Common.{sym, ◌-◌, ◌≤◌, arith}
+use Rattle.std.proofs.Common.{sym, arith}
 use Rattle.chains.specs.Lemmas.Tally.{free_most, tally_all}
 use Rattle.image.specs.Image.{view_of}
 use Rattle.laws.specs.Reader.{bytes}
@@ -8,12 +8,10 @@ use Rattle.map.specs.Map.{map_at}
 use Rattle.chains.proofs.stray_block.Goals as goal
 
 pub overflow_sub-left-2 : goal.overflow_sub-left-2
-overflow_sub-left-2 c =
-    let most : (c.args.free ≤ c.args.layout.blocks - c.args.layout.first) = omega (arith, c.requires.4, free_most c.args.layout (map_at (bytes c.args.head.now))) in
-    most
+overflow_sub-left-2 c = omega (arith, c.requires.4, free_most c.args.layout (map_at (bytes c.args.head.now)))
 
 pub returns-then-marked-left : goal.returns-then-marked-left
 returns-then-marked-left c =
-    let most : (c.args.free ≤ c.args.layout.blocks - c.args.layout.first) = omega (arith, c.requires.4, free_most c.args.layout (map_at (bytes c.args.head.now))) in
     let a = c.args in
-    sym (tally_all a.layout c.requires.0 (view_of a.layout (bytes a.head.now)) c.requires.2 (omega (arith, c.requires.3, c.requires.4, c.if-marked-left.true, most)))
+    let v = view_of a.layout (bytes a.head.now) in
+    sym (tally_all a.layout c.requires.0 v c.requires.2 (omega (arith, c.requires.3, c.requires.4, c.if-marked-left.true, free_most a.layout v.map)))

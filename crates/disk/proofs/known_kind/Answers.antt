@@ -1,9 +1,7 @@
--- `disk::known_kind` meets its contract: where the (told_of _ c.has_identity.ensures c.layout_of.ensures) directory is passed over the density tells the kind; else S900 if every slot has its identity, S1000
--- if every slot has that, else refusal 2. By the three tests. Assumes nothing.
+-- `disk::known_kind` meets its contract: where the first directory is passed over the density tells the kind; else S900 if every slot has its identity,
+-- S1000 if every slot has that, else refusal 2. By the three tests. Assumes nothing.
 use Rattle.std.proofs.Common.{◌≡◌, ap, ◌∙◌, arith, ℕ, Bool}
 use Rattle.disk.specs.Lemmas.Steps.{directory_held, kinds_over, kinds_900, kinds_1000, kinds_neither}
-use Rattle.laws.specs.Reader.{bytes}
-use Rattle.layout.specs.Layouts.{layout_of}
 use Rattle.layout.specs.declared.Kind.TheVariants.{S900, S1000}
 use Rattle.layout.specs.declared.Layout.{Layout}
 use Rattle.rules.specs.Check.{has_identity}

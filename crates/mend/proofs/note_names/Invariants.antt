@@ -1,6 +1,5 @@
 -- `mend::note_names` meets its contract: the slots below the one in hand are noted, and the table has them; those past the used ones have zeros.
 -- Each turn notes one slot more. Assumes nothing.
-use Rattle.std.proofs.Common.{◌-◌, ◌≤◌}
 use Rattle.image.specs.Image.{view_of}
 use Rattle.laws.specs.Reader.{bytes}
 use Rattle.mend.specs.Steps.{name_note, Reported}
@@ -9,7 +8,4 @@ use Rattle.mend.proofs.note_names.Given as goal
 
 abbrev pub invariant-loop-slot : goal.invariant-loop-slot
 invariant-loop-slot l =
-    (l.slot ≤ l.end) × Reported (name_note l.layout (view_of l.layout (bytes l.image))) l.initial.report l.report l.slot × Tops l.layout (bytes l.image) l.tops l.slot × Lowers l.layout (bytes l.image) l.lowers l.slot
-
-abbrev pub decreases-loop-slot : goal.decreases-loop-slot
-decreases-loop-slot l = l.end - l.slot
+    Reported (name_note l.layout (view_of l.layout (bytes l.image))) l.initial.report l.report l.slot × Tops l.layout (bytes l.image) l.table.tops l.slot × Lowers l.layout (bytes l.image) l.table.lowers l.slot

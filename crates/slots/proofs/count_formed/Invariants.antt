@@ -15,8 +15,8 @@ is_used l b s = used ((view_of l b).entry s)
 
 abbrev pub invariant-loop-slot : goal.invariant-loop-slot
 invariant-loop-slot l =
-    Searched (malformed l.layout (view_of l.layout (bytes l.head))) l.slots l.slot × (l.slot ≤ l.slots) × (l.counted ≤ l.slot)
-    × (l.counted + count (is_used l.layout (bytes l.head)) l.slot (l.slots - l.slot) ≡ count (is_used l.layout (bytes l.head)) 0 l.slots)
+    Searched (malformed l.layout (view_of l.layout (bytes l.head))) l.layout.slots l.slot × (l.slot ≤ l.layout.slots) × (l.counted ≤ l.slot)
+    × (l.counted + count (is_used l.layout (bytes l.head)) l.slot (l.layout.slots - l.slot) ≡ count (is_used l.layout (bytes l.head)) 0 l.layout.slots)
 
 abbrev pub decreases-loop-slot : goal.decreases-loop-slot
-decreases-loop-slot l = l.slots - l.slot
+decreases-loop-slot l = l.layout.slots - l.slot

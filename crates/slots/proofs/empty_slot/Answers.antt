@@ -1,18 +1,14 @@
--- `slots::empty_slot` meets its contract: the lowest empty slot of those left is that of all.
--- One search, by its laws. Assumes nothing.
-use Rattle.std.proofs.Common.{ap, not, arith}
-use Rattle.laws.specs.Lemmas.Search.{searched_none}
-use Rattle.laws.proofs.Lemmas.Search.{searched_found, searched_more, searched_all}
+-- `slots::empty_slot` meets its contract: `find` over the slots finds the lowest empty one.
+-- By the library's law for `find` over a range. Assumes nothing.
+use Rattle.std.proofs.Common.{arith, rules, not}
+use borrow.Author.Tests.{tests}
+use Rattle.image.specs.Image.{view_of}
+use Rattle.laws.proofs.Ranges.{find_told}
+use Rattle.laws.specs.Reader.{bytes}
+use Rattle.view.specs.Disk.{used}
 use Rattle.slots.proofs.empty_slot.Goals as goal
 
-pub loop-slot-init : goal.loop-slot-init
-loop-slot-init c = searched_none _ _
-
-pub returns-then-not-is_used : goal.returns-then-not-is_used
-returns-then-not-is_used c = searched_found _ _ _ c.loop-slot.invariant (omega arith) (ap not c.is_used.ensures) (ap not c.if-not-is_used.true)
-
-pub loop-slot-preserved : goal.loop-slot-preserved
-loop-slot-preserved c = searched_more _ _ _ c.loop-slot.invariant (omega arith) (ap not c.is_used.ensures) (ap not c.if-not-is_used.false)
-
 pub returns : goal.returns
-returns c = searched_all _ _ _ c.loop-slot.invariant (omega arith)
+returns c =
+    let a = c.args in
+    find_told _ (λ s. not (used ((view_of a.layout (bytes a.head.now)).entry s))) 0 a.layout.slots a.layout.slots c.find.ensures.ran (cc) (omega arith) (λ x t q k. search (rules, tests))

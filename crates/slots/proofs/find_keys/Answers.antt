@@ -1,18 +1,13 @@
--- `slots::find_keys` meets its contract: the lowest slot with the keys and the type of those left is that of all.
--- One search, by its laws. Assumes nothing.
-use Rattle.std.proofs.Common.{arith}
-use Rattle.laws.specs.Lemmas.Search.{searched_none}
-use Rattle.laws.proofs.Lemmas.Search.{searched_found, searched_more, searched_all}
+-- `slots::find_keys` meets its contract: `find` over the slots finds the lowest with the keys and the type.
+-- By the library's law for `find` over a range. Assumes nothing.
+use Rattle.std.proofs.Common.{arith, rules}
+use borrow.Author.Tests.{tests}
+use Rattle.laws.proofs.Ranges.{find_told}
+use Rattle.laws.specs.Reader.{bytes}
+use Rattle.slots.specs.Keys.{has_keys}
 use Rattle.slots.proofs.find_keys.Goals as goal
 
-pub loop-slot-init : goal.loop-slot-init
-loop-slot-init c = searched_none _ _
-
-pub returns-then-has_keys : goal.returns-then-has_keys
-returns-then-has_keys c = searched_found _ _ _ c.loop-slot.invariant (omega arith) c.has_keys.ensures c.if-has_keys.true
-
-pub loop-slot-preserved : goal.loop-slot-preserved
-loop-slot-preserved c = searched_more _ _ _ c.loop-slot.invariant (omega arith) c.has_keys.ensures c.if-has_keys.false
-
 pub returns : goal.returns
-returns c = searched_all _ _ _ c.loop-slot.invariant (omega arith)
+returns c =
+    let a = c.args in
+    find_told _ (λ s. has_keys a.layout (bytes a.head.now) s a.keys.low a.keys.high a.keys.letter) 0 a.layout.slots a.layout.slots c.find.ensures.ran (cc) (omega arith) (λ x t q k. search (rules, tests))

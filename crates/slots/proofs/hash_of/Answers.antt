@@ -5,4 +5,6 @@ use Rattle.slots.specs.Lemmas.Hashes.{same_hash}
 use Rattle.slots.proofs.hash_of.Goals as goal
 
 pub returns : goal.returns
-returns c = record { value = same_hash c.key-low.ensures.value c.key-high.ensures.value (c.wide-letter.ensures.0 ∙ c.type_of.ensures); small = omega arith }
+returns c =
+    let k = c.of_slot-low.ensures in
+    record { value = same_hash k.low k.high (c.from-letter.ensures ∙ k.letter); small = omega arith }

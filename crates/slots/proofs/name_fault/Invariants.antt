@@ -1,6 +1,5 @@
 -- `slots::name_fault` meets its contract: the lowest slot of those left with a lower slot's name and type is that of all, and the table has the slots below it.
 -- One search, by its laws; each turn hands the table on. Assumes nothing.
-use Rattle.std.proofs.Common.{◌-◌}
 use Rattle.image.specs.Image.{view_of}
 use Rattle.laws.specs.Lemmas.Search.{Searched}
 use Rattle.laws.specs.Reader.{bytes}
@@ -10,7 +9,4 @@ use Rattle.slots.proofs.name_fault.Given as goal
 
 abbrev pub invariant-loop-slot : goal.invariant-loop-slot
 invariant-loop-slot l =
-    Searched (repeated l.layout (view_of l.layout (bytes l.head))) l.count l.slot × Tops l.layout (bytes l.head) l.tops l.slot × Lowers l.layout (bytes l.head) l.lowers l.slot
-
-abbrev pub decreases-loop-slot : goal.decreases-loop-slot
-decreases-loop-slot l = l.count - l.slot
+    Searched (repeated l.layout (view_of l.layout (bytes l.head))) l.end l.slot × Tops l.layout (bytes l.head) l.table.tops l.slot × Lowers l.layout (bytes l.head) l.table.lowers l.slot

@@ -1,16 +1,14 @@
 -- `slots::stands_below` meets its contract: the lower slots from the one in hand on upwards don't have name and type, and the table leads to the next lower one with the hash.
 -- A slot has the two keys and the type exactly if it has name and type, and then it has the hash. Assumes nothing.
-use Rattle.std.proofs.Common.{◌≡◌, sym, ◌∙◌, ◌-◌, arith}
-use Rattle.image.specs.Image.{view_of}
+use Rattle.std.proofs.Common.{sym, ◌∙◌, ◌-◌, arith}
 use Rattle.laws.specs.Reader.{bytes}
 use Rattle.slots.specs.Lemmas.Hashes.{passed_none, passed_found, lower_less, passed_more, passed_all}
-use Rattle.slots.specs.Lemmas.Keys.{keys_name}
-use Rattle.view.specs.Rules.{has_name_of}
+use Rattle.slots.specs.Lemmas.Keys.{keyed_name}
 use Rattle.slots.proofs.stands_below.Goals as goal
 
 pub loop-next-init : goal.loop-next-init
 loop-next-init c =
-    passed_none c.args.layout (bytes c.args.head.now) c.key-high.ensures.small c.args.slot c.requires.2 c.args.top c.requires.4
+    passed_none c.args.layout (bytes c.args.head.now) c.of_slot-keys.ensures.small c.args.slot c.requires.2 c.args.top c.requires.4
 
 pub has_keys-requires : goal.has_keys-requires
 has_keys-requires c = omega (arith, c.loop-next.invariant.low)
@@ -19,9 +17,7 @@ pub returns-then-has_keys : goal.returns-then-has_keys
 returns-then-has_keys c =
     let a = c.args in
     let x = c.loop-next.next in
-    let keyed : c.has_keys.result ≡ has_name_of a.layout (view_of a.layout (bytes a.head.now)) a.slot (x - 1) =
-    keys_name a.layout (bytes a.head.now) a.slot (x - 1) c.key-high.ensures.small c.key-low.ensures.value c.key-high.ensures.value c.type_of-letter.ensures c.has_keys.ensures in
-    sym (passed_found a.layout (bytes a.head.now) c.key-high.ensures.small a.slot c.requires.2 x (x - 1) c.loop-next.invariant (omega arith) (sym keyed ∙ c.if-has_keys.true))
+    sym (passed_found a.layout (bytes a.head.now) c.of_slot-keys.ensures.small a.slot c.requires.2 x (x - 1) c.loop-next.invariant (omega arith) (sym (keyed_name a.layout (bytes a.head.now) a.slot (x - 1) c.of_slot-keys.ensures c.has_keys.ensures) ∙ c.if-has_keys.true))
 
 pub bounds-lowers-other : goal.bounds-lowers-other
 bounds-lowers-other c =
@@ -31,19 +27,17 @@ pub loop-next-smaller : goal.loop-next-smaller
 loop-next-smaller c =
     let a = c.args in
     let x = c.loop-next.next in
-    rw c.wide-next.ensures (lower_less a.layout (bytes a.head.now) c.key-high.ensures.small a.slot c.requires.2 x (x - 1) c.loop-next.invariant (omega arith) a.lowers.now c.requires.3)
+    rw c.from-next.ensures (lower_less a.layout (bytes a.head.now) c.of_slot-keys.ensures.small a.slot c.requires.2 x (x - 1) c.loop-next.invariant (omega arith) a.lowers.now c.requires.3)
 
 pub loop-next-preserved : goal.loop-next-preserved
 loop-next-preserved c =
     let a = c.args in
     let x = c.loop-next.next in
-    let keyed : c.has_keys.result ≡ has_name_of a.layout (view_of a.layout (bytes a.head.now)) a.slot (x - 1) =
-    keys_name a.layout (bytes a.head.now) a.slot (x - 1) c.key-high.ensures.small c.key-low.ensures.value c.key-high.ensures.value c.type_of-letter.ensures c.has_keys.ensures in
-    rw c.wide-next.ensures
-    (passed_more a.layout (bytes a.head.now) c.key-high.ensures.small a.slot c.requires.2 x (x - 1) c.loop-next.invariant (omega arith) a.lowers.now c.requires.3
-    (sym keyed ∙ c.if-has_keys.false))
+    rw c.from-next.ensures
+    (passed_more a.layout (bytes a.head.now) c.of_slot-keys.ensures.small a.slot c.requires.2 x (x - 1) c.loop-next.invariant (omega arith) a.lowers.now c.requires.3
+    (sym (keyed_name a.layout (bytes a.head.now) a.slot (x - 1) c.of_slot-keys.ensures c.has_keys.ensures) ∙ c.if-has_keys.false))
 
 pub returns : goal.returns
 returns c =
     let a = c.args in
-    sym (passed_all a.layout (bytes a.head.now) c.key-high.ensures.small a.slot c.requires.2 c.loop-next.next c.loop-next.invariant (omega arith))
+    sym (passed_all a.layout (bytes a.head.now) c.of_slot-keys.ensures.small a.slot c.requires.2 c.loop-next.next c.loop-next.invariant (omega arith))

@@ -123,6 +123,10 @@ module _ (l : Layout) (b : ℕ → ℕ) where
       go t h w (yes p) = rw p (get_or-set_same lowers s top 0 (omega (arith, k.size)) ∙ e)
       go t h w (no p) = get_or-set_other lowers s t top 0 p ∙ k.lower t (omega arith) w
 
+  -- what it holds at a slot's hash
+  pub top_held : (tops : List ℕ) (s hash : ℕ) → Tops l b tops s → hash ≡ slot_hash l b s → hash < 1009 → get_or tops hash 0 ≡ highest (has_hash_of l b s) s
+  top_held tops s hash k e low = k.top hash low ∙ ap (λ (x : ℕ). highest (has_hash l b x) s) e
+
   -- ---- names
 
   pub empty_new : (s : ℕ) → used ((view_of l b).entry s) ≡ false → repeated l (view_of l b) s ≡ false

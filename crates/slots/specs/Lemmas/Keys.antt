@@ -1,6 +1,6 @@
 -- Names compared by keys: a name's area of 16 bytes as two numbers of eight bytes each, and the type.
 -- Numbers of bytes below 256 are equal exactly if their bytes are, by induction on the width. Assumes nothing.
-use Rattle.std.specs.Prelude.{◌≡◌, Bool, true, false, eqb}
+use Rattle.std.specs.Prelude.{◌≡◌, Bool, true, false, ◌&&◌, eqb}
 use Rattle.std.proofs.Math.Path.{refl, ap₂}
 use Rattle.std.proofs.Common.{sym, ap, ◌∙◌, add-zero, suc-add, zero-add, mul_assoc, arith, eqb-true, eq-eqb}
 use mathlib.Core.List.{List, ◌∷◌}
@@ -17,7 +17,8 @@ use Rattle.blocks.specs.Lemmas.Numbers.{number_small}
 use Rattle.view.specs.Disk.{has_name}
 use Rattle.view.specs.Rules.{has_name_of}
 use Rattle.image.specs.Image.{entry_at, view_of}
-use Rattle.slots.specs.Keys.{has_keys}
+use Rattle.slots.specs.Keys.{Keyed, has_keys}
+use Rattle.slots.specs.declared.Keys.{Keys}
 
 -- past a test that passed, the other one decides
 pub both_when : (a b : Bool) → b ≡ true → both a b ≡ a
@@ -96,3 +97,24 @@ pub keys_name : (l : Layout) (b : ℕ → ℕ) (s t : ℕ) {low high type : ℕ}
 unfolding has_name_of entry_at
 keys_name l b s t {type = type} small p q y e =
     e ∙ keys_area l b b (slot_offset l s) t type small small p q ∙ ap (λ (n : ℕ). has_name (tab b (slot_offset l s) 16) n ((view_of l b).entry t)) y
+
+-- the same where the code made the keys
+pub keyed_name : (l : Layout) (b : ℕ → ℕ) (s t : ℕ) {k : Keys} {r : Bool} → Keyed b (slot_offset l s) ((view_of l b).entry s).type k → r ≡ has_keys l b t k.low k.high k.letter → r ≡ has_name_of l (view_of l b) s t
+keyed_name l b s t k e = keys_name l b s t k.small k.low k.high k.letter e
+
+-- keys of a slot, compared as the code compares them
+eqb_swap : (x y : ℕ) → eqb x y ≡ eqb y x
+eqb_swap x y = same_truth _ _ (λ e. eq-eqb y x (sym (eqb-true x y e))) (λ e. eq-eqb x y (sym (eqb-true y x e)))
+
+and_both : (a b c : Bool) → (a && (b && c)) ≡ both (both a b) c
+and_both true true c = refl
+and_both true false c = refl
+and_both false b c = refl
+
+pub keys_told : (l : Layout) (b : ℕ → ℕ) (s : ℕ) (k o : Keys) → Keyed b (slot_offset l s) ((view_of l b).entry s).type k → (eqb k.low o.low && (eqb k.high o.high && eqb k.letter o.letter)) ≡ has_keys l b s o.low o.high o.letter
+unfolding has_keys
+keys_told l b s k o e =
+    let low = eqb (number 8 b (slot_offset l s)) o.low in
+    let high = eqb (number 8 b (slot_offset l s + 8)) o.high in
+    let type = ((view_of l b).entry s).type in
+    rw (e.low, e.high, e.letter) (and_both low high (eqb type o.letter) ∙ ap (both (both low high)) (eqb_swap type o.letter))
