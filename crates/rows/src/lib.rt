@@ -79,24 +79,12 @@ pub struct Run {
     pub rule: Rule,
 }
 
-fn byte(header: &[u8], at: usize) -> usize
-    ensures { (result ≡ bytes header.now at) × (result < 256) }
-{
-    header.get(at).map_or(0, |&byte| usize::from(byte))
-}
-
-fn word(header: &[u8], at: usize) -> usize
-    requires { at < 4294967296 }
-    ensures { Number 2 (bytes header.now) at result }
-{
-    byte(header, at) + 256 * byte(header, at + 1)
-}
-
-fn long(header: &[u8], at: usize) -> usize
-    requires { at < 2147483648 }
-    ensures { Number 4 (bytes header.now) at result }
-{
-    byte(header, at) + 256 * (byte(header, at + 1) + 256 * word(header, at + 2))
+// A header, and the offset of its file where it starts, low enough that no place in it wraps.
+#[derive(Clone, Copy)]
+struct Header<'a> {
+    content: &'a [u8],
+    base: usize,
+    ghost near: { base < 4294967296 },
 }
 
 impl Width {
@@ -108,18 +96,6 @@ impl Width {
             Width::One => 256,
             Width::Two => 65536,
             Width::Four => 4294967296,
-        }
-    }
-
-    // The number of this width from an offset on.
-    fn number(self, header: &[u8], at: usize) -> usize
-        requires { at < 2147483648 }
-        ensures { Read header.now at self result }
-    {
-        match self {
-            Width::One => byte(header, at),
-            Width::Two => word(header, at),
-            Width::Four => long(header, at),
         }
     }
 
@@ -136,35 +112,6 @@ impl Width {
     }
 }
 
-// Whether a number of a header keeps a rule.
-#[tactic(auto, unfolding(crate::specs::Rows::legal))]
-fn is_legal(header: &[u8], base: usize, width: Width, rule: Rule, v: usize) -> bool
-    requires { (base < 4294967296) × (v < 4294967296) }
-    ensures { result ≡ legal header.now base (size_of width) rule v }
-{
-    match rule {
-        Rule::From(low, high) => (usize::from(low)..=usize::from(high)).contains(&v),
-        Rule::Within(n) => v <= usize::from(n) || width.values() <= v + usize::from(n),
-        Rule::OrOff(n) => v <= usize::from(n) || v == 255,
-        Rule::OneOf(a, b, d) => v == usize::from(a) || v == usize::from(b) || v == usize::from(d),
-        Rule::AtMost(other) => v <= long(header, usize::from(other)),
-        Rule::Past(n) => v == base + usize::from(n),
-        Rule::Akaii => names::is_akaii(v),
-        Rule::Ascii => names::is_ascii(v),
-    }
-}
-
-// Whether number j of a run breaks the run's rule.
-#[tactic(auto, unfolding(crate::specs::Rows::keeps))]
-fn is_broken(header: &[u8], base: usize, run: Run, j: usize) -> bool
-    requires { (base < 4294967296) × (j < 65536) }
-    ensures { result ≡ breaks header.now base run j }
-{
-    let at = run.width.offset_of(usize::from(run.at), j);
-    let v = run.width.number(header, at);
-    !is_legal(header, base, run.width, run.rule, v)
-}
-
 fn place_of(base: usize, run: Run, j: usize) -> usize
     requires { (base < 4294967296) × (j < 65536) }
     ensures { result ≡ place_of base run j }
@@ -173,64 +120,115 @@ fn place_of(base: usize, run: Run, j: usize) -> usize
     if run.own { base + at + j } else { base + at }
 }
 
-// The lowest place of a run where its rule is broken.
-fn run_fault(header: &[u8], base: usize, run: Run) -> Option<usize>
-    requires { base < 4294967296 }
-    ensures { result ≡ run_fault header.now base run }
-{
-    (0..usize::from(run.count))
-        .find(|&j| is_broken(header, base, run, j))
-        .map(|j| place_of(base, run, j))
-}
-
-// One byte, without a run: most rows are such, and with a run for each the check of a program takes 1.4 times as long.
-fn byte_fault(header: &[u8], base: usize, at: u16, rule: Rule) -> Option<usize>
-    requires { base < 4294967296 }
-    ensures { result ≡ run_fault header.now base (byte_run at rule) }
-{
-    let place = usize::from(at);
-    if is_legal(header, base, Width::One, rule, byte(header, place)) {
-        None
-    } else {
-        Some(base + place)
+impl Header<'_> {
+    fn byte(self, at: usize) -> usize
+        ensures { (result ≡ bytes self.entry.content.now at) × (result < 256) }
+    {
+        self.content.get(at).map_or(0, |&byte| usize::from(byte))
     }
-}
 
-// Bytes, each its own place.
-fn each_fault(header: &[u8], base: usize, at: u16, count: u16, rule: Rule) -> Option<usize>
-    requires { base < 4294967296 }
-    ensures { result ≡ run_fault header.now base (each_run at count rule) }
-{
-    let run = Run {
-        at,
-        count,
-        width: Width::One,
-        own: true,
-        rule,
-    };
-    run_fault(header, base, run)
-}
+    fn word(self, at: usize) -> usize
+        requires { at < 4294967296 }
+        ensures { Number 2 (bytes self.entry.content.now) at result }
+    {
+        self.byte(at) + 256 * self.byte(at + 1)
+    }
 
-// Numbers whose place is the first's.
-fn group_fault(
-    header: &[u8],
-    base: usize,
-    at: u16,
-    count: u16,
-    width: Width,
-    rule: Rule,
-) -> Option<usize>
-    requires { base < 4294967296 }
-    ensures { result ≡ run_fault header.now base (group_run at count width rule) }
-{
-    let run = Run {
-        at,
-        count,
-        width,
-        own: false,
-        rule,
-    };
-    run_fault(header, base, run)
+    fn long(self, at: usize) -> usize
+        requires { at < 2147483648 }
+        ensures { Number 4 (bytes self.entry.content.now) at result }
+    {
+        self.byte(at) + 256 * (self.byte(at + 1) + 256 * self.word(at + 2))
+    }
+
+    fn number(self, at: usize, width: Width) -> usize
+        requires { at < 2147483648 }
+        ensures { Read self.entry.content.now at width result }
+    {
+        match width {
+            Width::One => self.byte(at),
+            Width::Two => self.word(at),
+            Width::Four => self.long(at),
+        }
+    }
+
+    // Whether a number of the header keeps a rule.
+    #[tactic(auto, unfolding(crate::specs::Rows::legal))]
+    fn is_legal(self, width: Width, rule: Rule, v: usize) -> bool
+        requires { v < 4294967296 }
+        ensures { result ≡ legal self.entry.content.now self.entry.base (size_of width) rule v }
+    {
+        match rule {
+            Rule::From(low, high) => (usize::from(low)..=usize::from(high)).contains(&v),
+            Rule::Within(n) => v <= usize::from(n) || width.values() <= v + usize::from(n),
+            Rule::OrOff(n) => v <= usize::from(n) || v == 255,
+            Rule::OneOf(a, b, d) => v == usize::from(a)
+                || v == usize::from(b)
+                || v == usize::from(d),
+            Rule::AtMost(other) => v <= self.long(usize::from(other)),
+            Rule::Past(n) => v == self.base + usize::from(n),
+            Rule::Akaii => names::is_akaii(v),
+            Rule::Ascii => names::is_ascii(v),
+        }
+    }
+
+    // Whether number j of a run breaks the run's rule.
+    #[tactic(auto, unfolding(crate::specs::Rows::keeps))]
+    fn is_broken(self, run: Run, j: usize) -> bool
+        requires { j < 65536 }
+        ensures { result ≡ breaks self.entry.content.now self.entry.base run j }
+    {
+        let at = run.width.offset_of(usize::from(run.at), j);
+        let v = self.number(at, run.width);
+        !self.is_legal(run.width, run.rule, v)
+    }
+
+    // The lowest place of a run where its rule is broken.
+    fn run_fault(self, run: Run) -> Option<usize>
+        ensures { result ≡ run_fault self.entry.content.now self.entry.base run }
+    {
+        (0..usize::from(run.count))
+            .find(|&j| self.is_broken(run, j))
+            .map(|j| place_of(self.base, run, j))
+    }
+
+    // One byte, without a run: most rows are such, and with a run for each the check of a program takes 1.4 times as long.
+    fn byte_fault(self, at: u16, rule: Rule) -> Option<usize>
+        ensures { result ≡ run_fault self.entry.content.now self.entry.base (byte_run at rule) }
+    {
+        let place = usize::from(at);
+        if self.is_legal(Width::One, rule, self.byte(place)) {
+            None
+        } else {
+            Some(self.base + place)
+        }
+    }
+
+    // Bytes, each its own place.
+    fn each_fault(self, at: u16, count: u16, rule: Rule) -> Option<usize>
+        ensures { result ≡ run_fault self.entry.content.now self.entry.base (each_run at count rule) }
+    {
+        self.run_fault(Run {
+            at,
+            count,
+            width: Width::One,
+            own: true,
+            rule,
+        })
+    }
+
+    // Numbers whose place is the first's.
+    fn group_fault(self, at: u16, count: u16, width: Width, rule: Rule) -> Option<usize>
+        ensures { result ≡ run_fault self.entry.content.now self.entry.base (group_run at count width rule) }
+    {
+        self.run_fault(Run {
+            at,
+            count,
+            width,
+            own: false,
+            rule,
+        })
+    }
 }
 
 // The lowest place where a header breaks a row.
@@ -238,28 +236,30 @@ pub fn row_fault(header: &[u8], base: usize, row: Row) -> Option<usize>
     requires { base < 4294967296 }
     ensures { result ≡ row_fault header.now base row }
 {
+    let header = Header {
+        content: header,
+        base,
+    };
     match row {
-        Row::Only(at, v) => byte_fault(header, base, at, Rule::From(v, v)),
-        Row::From(at, low, high) => byte_fault(header, base, at, Rule::From(low, high)),
-        Row::Within(at, n) => byte_fault(header, base, at, Rule::Within(n)),
-        Row::OrOff(at, n) => byte_fault(header, base, at, Rule::OrOff(n)),
-        Row::OneOf(at, a, b, d) => byte_fault(header, base, at, Rule::OneOf(a, b, d)),
-        Row::Name(at, count) => each_fault(header, base, at, count, Rule::Akaii),
-        Row::Ascii(at, count) => each_fault(header, base, at, count, Rule::Ascii),
-        Row::Zeros(at, count) => each_fault(header, base, at, count, Rule::From(0, 0)),
+        Row::Only(at, v) => header.byte_fault(at, Rule::From(v, v)),
+        Row::From(at, low, high) => header.byte_fault(at, Rule::From(low, high)),
+        Row::Within(at, n) => header.byte_fault(at, Rule::Within(n)),
+        Row::OrOff(at, n) => header.byte_fault(at, Rule::OrOff(n)),
+        Row::OneOf(at, a, b, d) => header.byte_fault(at, Rule::OneOf(a, b, d)),
+        Row::Name(at, count) => header.each_fault(at, count, Rule::Akaii),
+        Row::Ascii(at, count) => header.each_fault(at, count, Rule::Ascii),
+        Row::Zeros(at, count) => header.each_fault(at, count, Rule::From(0, 0)),
         Row::AllFrom(at, count, low, high) => {
-            group_fault(header, base, at, count, Width::One, Rule::From(low, high))
+            header.group_fault(at, count, Width::One, Rule::From(low, high))
         }
         Row::AllWithin(at, count, n) => {
-            group_fault(header, base, at, count, Width::One, Rule::Within(n))
+            header.group_fault(at, count, Width::One, Rule::Within(n))
         }
-        Row::Word(at, v) => group_fault(header, base, at, 1, Width::Two, Rule::From(v, v)),
-        Row::Past(at, n) => group_fault(header, base, at, 1, Width::Two, Rule::Past(n)),
+        Row::Word(at, v) => header.group_fault(at, 1, Width::Two, Rule::From(v, v)),
+        Row::Past(at, n) => header.group_fault(at, 1, Width::Two, Rule::Past(n)),
         Row::WordsWithin(at, count, n) => {
-            group_fault(header, base, at, count, Width::Two, Rule::Within(n))
+            header.group_fault(at, count, Width::Two, Rule::Within(n))
         }
-        Row::AtMost(at, other) => {
-            group_fault(header, base, at, 1, Width::Four, Rule::AtMost(other))
-        }
+        Row::AtMost(at, other) => header.group_fault(at, 1, Width::Four, Rule::AtMost(other)),
     }
 }
