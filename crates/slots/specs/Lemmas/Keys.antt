@@ -2,7 +2,7 @@
 -- Numbers of bytes below 256 are equal exactly if their bytes are, by induction on the width. Assumes nothing.
 use Rattle.std.specs.Prelude.{◌≡◌, Bool, true, false, ◌&&◌, eqb}
 use Rattle.std.proofs.Math.Path.{refl, ap₂}
-use Rattle.std.proofs.Common.{sym, ap, ◌∙◌, add-zero, suc-add, zero-add, mul_assoc, arith, eqb-true, eq-eqb}
+use Rattle.std.proofs.Common.{sym, ap, ◌∙◌, add-zero, suc-add, zero-add, mul_assoc, arith, eqb-true, eq-eqb, ne_eqb}
 use mathlib.Core.List.{List, ◌∷◌}
 use Prim.Native.Nat.{ℕ, zero, suc, ◌+◌, ◌*◌, ◌<◌}
 use Rattle.laws.specs.Truth.{both}
@@ -110,6 +110,11 @@ and_both : (a b c : Bool) → (a && (b && c)) ≡ both (both a b) c
 and_both true true c = refl
 and_both true false c = refl
 and_both false b c = refl
+
+-- another first key decides alone
+pub other_low : (l : Layout) (b : ℕ → ℕ) (s low high type : ℕ) {x at : ℕ} → x ≡ number 8 b at → at ≡ slot_offset l s → (x ≡ low → ⊥) → has_keys l b s low high type ≡ false
+unfolding has_keys
+other_low l b s low high type e p n = rw (ne_eqb (number 8 b (slot_offset l s)) low (λ q. n (rw p at e ∙ q))) refl
 
 pub keys_told : (l : Layout) (b : ℕ → ℕ) (s : ℕ) (k o : Keys) → Keyed b (slot_offset l s) ((view_of l b).entry s).type k → (eqb k.low o.low && (eqb k.high o.high && eqb k.letter o.letter)) ≡ has_keys l b s o.low o.high o.letter
 unfolding has_keys
