@@ -8,20 +8,6 @@ ghost use Rattle.laws.specs.Padded.{padded};
 ghost use Rattle.laws.specs.Reader.{bytes};
 ghost use Rattle.blocks.specs.Numbers.{Number, digits};
 
-// A byte as a number.
-pub fn wide(byte: u8) -> usize
-    ensures { (result ≡ byte) × (result < 256) }
-{
-    usize::from(byte)
-}
-
-// The smaller of two numbers.
-pub fn least(a: usize, b: usize) -> usize
-    ensures { result ≡ min a b }
-{
-    a.min(b)
-}
-
 // The number in N bytes from an offset on, the least significant first.
 pub fn number<const N: usize>(source: &[u8], at: usize) -> usize
     requires width { N ≤ 8 }

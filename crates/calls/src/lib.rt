@@ -71,10 +71,7 @@ fn list_slot(image: &[u8], layout: layout::Layout, slot: usize) -> Result<Entry,
 fn is_legal(layout: layout::Layout, name: &[u8], letter: u8) -> bool
     ensures { result ≡ is_legal layout name.now letter }
 {
-    if !names::is_name(layout, name) {
-        return false;
-    }
-    names::is_type(layout, letter)
+    names::is_name(layout, name) && names::is_type(layout, letter)
 }
 
 // The slot of a file of an accepted image by its legal name and type.
@@ -177,7 +174,7 @@ fn page_slot(
         return unpaged(Refusal::OffsetPastEnd);
     }
     let start = slots::start_of(image, layout, slot);
-    let count = blocks::least(out.len(), size - offset);
+    let count = out.len().min(size - offset);
     let links = (size - 1) / 1024;
     let cost = pages::page_runs(image, layout, links, start, offset, out, count);
     let end = offset + count == size;

@@ -53,9 +53,9 @@ returns c =
     let u = here in
     let n = content-size l c.requires.0 img c.requires.1 a.slot (omega arith) u c.size_of-size.ensures in
     let some = size_some l c.requires.0 img c.requires.1 a.slot (omega arith) u c.size_of-size.ensures in
-    let both = meters_file img _ a.offset _ (slot_file l img a.slot) c.size_of-size.result c.least-count.result
-    (file-used l img a.slot (omega arith) u) n some (omega arith) c.least-count.ensures refl
+    let both = meters_file img _ a.offset _ (slot_file l img a.slot) c.size_of-size.result c.min-count.result
+    (file-used l img a.slot (omega arith) u) n some (omega arith) c.min-count.ensures refl
     (c.page_runs-cost.ensures.out_after
     ∙ ap (splice _ 0)
-    (page-bytes l c.requires.0 img c.requires.1 a.slot (omega arith) u c.size_of-size.ensures c.start_of-start.ensures a.offset c.least-count.result (omega arith)))
+    (page-bytes l c.requires.0 img c.requires.1 a.slot (omega arith) u c.size_of-size.ensures c.start_of-start.ensures a.offset c.min-count.result (omega arith)))
     c.page_runs-cost.ensures.value in record { image_after = both.0; cost_value = both.1 }
