@@ -1,6 +1,7 @@
 // The listing program (document 01): reads an image on standard input, and writes what it holds or why it is refused.
 // `lines` makes all of the text in a lent output, where a promise says what it is; `run` alone reads and writes.
 // The functions that put a part of it say which text they put, and where the next one goes; outside, only `cases` calls them.
+// Output and index stay apart: the public ones of them (`put_refused`, `put_checked`, `put_file`) promise `Puts` of the index given and of the next.
 #![tactic(auto)]
 
 ghost use Rattle.std.specs.Prelude.{◌≡◌, ◌++◌, ◌+◌, ◌≤◌, ◌<◌, length, IfOk, OnErr};
@@ -8,7 +9,7 @@ ghost use Rattle.io.specs.Counts.{IsPrefixLen};
 ghost use Rattle.laws.specs.Reader.{bytes};
 ghost use Rattle.layout.specs.Layouts.{slot_offset};
 ghost use Rattle.layout.specs.Right.{LayoutRight};
-ghost use Rattle.record.specs.Record.{kind_number, density_number, entry};
+ghost use Rattle.record.specs.Record.{density_number, entry};
 ghost use Rattle.rules.specs.Check.{answer_of};
 ghost use Rattle.listing.specs.Listing.{decimal, density_word, refused_text, check_text, letter_of, file_line, slot_line, slot_lines};
 ghost use Rattle.listing.specs.Lines.{slot_answer, lines_of};
@@ -20,6 +21,7 @@ use std::io::{Print, Read};
 use std::rt::{Stdin, Stdout};
 
 // Reads until the buffer is full or the input ends, and says how many bytes came. Where a read fails, some of the buffer may be written.
+// A while: each turn goes on by as many bytes as came, which no range counts.
 pub fn read_full(input: &mut Stdin, buffer: &mut [u8]) -> std::io::Result<usize>
     ensures ok { IfOk result (λ count. IsPrefixLen count buffer.new) }
     ensures err { OnErr result (length buffer.new ≡ length buffer.old) }
@@ -47,10 +49,8 @@ fn skip_some(input: &mut Stdin) -> std::io::Result<usize>
 fn count_rest(input: &mut Stdin) -> std::io::Result<usize>
     ensures { IfOk result (λ count. count ≤ 4194304) }
 {
-    let mut total: usize = 0;
-    let mut turns: usize = 64;
-    while turns > 0 {
-        turns -= 1;
+    let mut total = 0;
+    for _ in 0..64usize {
         let more = skip_some(input)?;
         if more == 0 {
             break;
@@ -65,12 +65,10 @@ fn put(word: &[u8], out: &mut [u8], at: usize) -> usize
     requires { (length word.now ≤ 65536) × (at ≤ 65536) }
     ensures { Puts (length word.now) word.now at out.old out.new result }
 {
-    let mut i = 0;
-    while i < word.len() {
+    for (i, &byte) in word.iter().enumerate() {
         if at + i < out.len() {
-            out[at + i] = word[i];
+            out[at + i] = byte;
         }
-        i += 1;
     }
     at + word.len()
 }
@@ -95,16 +93,6 @@ pub fn put_refused(refusal: Refusal, out: &mut [u8; 24576], at: usize) -> usize
     put_number(b" at ", refusal.place(), out, next)
 }
 
-fn kind_number(kind: layout::Kind) -> usize
-    ensures { result ≡ kind_number kind }
-{
-    match kind {
-        layout::Kind::S900 => 900,
-        layout::Kind::S1000 => 1000,
-        layout::Kind::S3000 => 3000,
-    }
-}
-
 fn put_density(density: layout::Density, out: &mut [u8; 24576], at: usize) -> usize
     requires { at ≤ 24704 }
     ensures { Puts 5 (density_word (density_number density)) at out.old out.new result }
@@ -122,7 +110,7 @@ pub fn put_checked(checked: Result<Accepted, Refusal>, out: &mut [u8; 24576], at
 {
     match checked {
         Ok(disk) => {
-            let next = put_number(b"S", kind_number(disk.kind), out, at);
+            let next = put_number(b"S", disk.kind as usize, out, at);
             let next = put_density(disk.density, out, next);
             let next = put_number(b" files ", disk.files, out, next);
             put_number(b" free ", disk.free, out, next)
@@ -131,14 +119,11 @@ pub fn put_checked(checked: Result<Accepted, Refusal>, out: &mut [u8; 24576], at
     }
 }
 
-// What is written of a type byte: its letter, a capital where the byte is that plus 128.
+// What is written of a type byte: its letter, a capital where the byte is that plus 128. A letter has seven bits.
 fn letter_of(byte: u8) -> u8
     ensures { result ≡ letter_of byte }
 {
-    if byte < 128 {
-        return byte;
-    }
-    byte - 128
+    byte & 127
 }
 
 // A file's type, length and name, and the line's end.
@@ -184,12 +169,9 @@ fn put_slots(head: &[u8], layout: layout::Layout, out: &mut [u8; 24576], at: usi
     requires { LayoutRight layout × (slot_offset layout layout.slots ≤ length head.now) × (at ≤ 80) }
     ensures { Puts 24064 (slot_lines (slot_answer layout (bytes head.now)) layout.slots) at out.old out.new result }
 {
-    let slots = layout.slots;
     let mut next = at;
-    let mut slot = 0;
-    while slot < slots {
+    for slot in 0..layout.slots {
         next = put_slot(head, layout, slot, out, next);
-        slot += 1;
     }
     next
 }
@@ -202,8 +184,7 @@ pub fn lines(head: &[u8], length: usize, out: &mut [u8; 24576]) -> usize
     let checked = disk::check_head(head, length);
     let next = put_checked(checked, out, 0);
     let next = put(b"\n", out, next);
-    let Ok(disk) = checked
-    else {
+    let Ok(disk) = checked else {
         return next;
     };
     let next = put_slots(head, layout::layout_of(disk.kind, disk.density), out, next);

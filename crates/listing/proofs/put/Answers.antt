@@ -7,7 +7,7 @@ use Rattle.std.proofs.Math.Seq.{set_out}
 use Rattle.listing.proofs.put.Goals as goal
 
 pub loop-i-init : goal.loop-i-init
-loop-i-init c = (omega arith, splice_none _ _)
+loop-i-init c = splice_none _ _
 
 pub loop-i-preserved : goal.loop-i-preserved
 loop-i-preserved c =
@@ -17,9 +17,9 @@ loop-i-preserved c =
       | then-at-i w ↦ w.out-is
       | else-at-i w ↦ w.out-is ∙ sym (set_out l.out (a.at + l.i) (get_or a.word.now l.i 0) w.if-at-i.false)
     ] in
-    (omega arith, stored ∙ splice-turn a.out.now a.at a.word.now l.i l.invariant.1 refl (omega arith) refl)
+    stored ∙ splice-turn a.out.now a.at a.word.now l.i l.invariant refl (omega arith) refl
 
 pub returns : goal.returns
 returns c =
     let l = c.loop-i in
-    record { out = l.invariant.1 ∙ rw (take_all l.i c.args.word.now (omega arith)) refl; count = refl; near = omega arith }
+    record { out = l.invariant ∙ rw (take_all l.i c.args.word.now (omega arith)) refl; count = refl; near = omega arith }

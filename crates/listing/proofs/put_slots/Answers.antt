@@ -7,17 +7,17 @@ use Rattle.listing.proofs.put_slots.Goals as goal
 
 pub loop-slot-init : goal.loop-slot-init
 unfolding slot_lines
-loop-slot-init c = (omega arith, puts_none)
+loop-slot-init c = puts_none
 
 pub loop-slot-preserved : goal.loop-slot-preserved
 unfolding slot_lines
 loop-slot-preserved c =
     let l = c.loop-slot in
-    let p = puts_then l.invariant.1 c.put_slot-next.ensures in
-    (omega arith, rw (add-one l.slot) (puts_near p (47 * suc l.slot) (omega (arith, p.near))))
+    let p = puts_then l.invariant c.put_slot-next.ensures in
+    rw (add-one l.slot) (puts_near p (47 * suc l.slot) (omega (arith, p.near)))
 
 pub returns : goal.returns
 returns c =
     let l = c.loop-slot in
     let e : l.slot ≡ c.args.layout.slots = omega arith in
-    rw e at (puts_near l.invariant.1 24064 (omega (arith, l.invariant.1.near, c.requires.0.slots_few)))
+    rw e at (puts_near l.invariant 24064 (omega (arith, l.invariant.near, c.requires.0.slots_few)))

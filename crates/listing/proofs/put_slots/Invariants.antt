@@ -1,6 +1,6 @@
 -- `listing::put_slots` meets its contract: the lines of the layout's slots, in order.
 -- The invariant: the output holds those of the slots passed, of at most 47 bytes each. Assumes nothing.
-use Rattle.std.proofs.Common.{◌*◌, ◌-◌, ◌≤◌}
+use Rattle.std.proofs.Common.{◌*◌}
 use Rattle.laws.specs.Reader.{bytes}
 use Rattle.listing.specs.Lines.{slot_answer}
 use Rattle.listing.specs.Listing.{slot_lines}
@@ -8,8 +8,4 @@ use Rattle.listing.specs.Puts.{Puts}
 use Rattle.listing.proofs.put_slots.Given as goal
 
 abbrev pub invariant-loop-slot : goal.invariant-loop-slot
-invariant-loop-slot l =
-    (l.slot ≤ l.slots) × Puts (47 * l.slot) (slot_lines (slot_answer l.layout (bytes l.head)) l.slot) l.at l.initial.out l.out l.next
-
-abbrev pub decreases-loop-slot : goal.decreases-loop-slot
-decreases-loop-slot l = l.slots - l.slot
+invariant-loop-slot l = Puts (47 * l.slot) (slot_lines (slot_answer l.layout (bytes l.head)) l.slot) l.at l.initial.out l.out l.next
