@@ -65,6 +65,7 @@ fn fill_second(source: &[u8], half: usize, words: &mut [i16])
     }
 }
 
+// Both halves. What the samplers store differs in more than a number, words in halves or one after another: so each has its own fill and store.
 fn fill900(source: &[u8], count: usize, words: &mut [i16])
     requires { (count + count / 2 ≤ length source.now) × (count ≤ length words.old) }
     ensures { words.new ≡ sets words.old 0 (unpacked900 (bytes source.now) count) }

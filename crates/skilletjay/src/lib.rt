@@ -1,4 +1,5 @@
 // The C interface (include/skilletjay.h): each call takes any bytes, and promises every field of its result and every byte of a lent output.
+// C has a name for each sampler, so these stand twice here; and no library can stand on an archive, so `skilletjay_c` has each once more.
 #![tactic(auto)]
 
 ghost use Rattle.std.specs.Prelude.{◌≡◌};
