@@ -5,7 +5,4 @@ use Rattle.mend.specs.Lemmas.Setting.{Erasing}
 use Rattle.mend.proofs.erase_dropped.Given as goal
 
 abbrev pub invariant-loop-slot : goal.invariant-loop-slot
-invariant-loop-slot l = (l.slot ≤ l.end) × Erasing l.layout l.report l.initial.image l.image l.slot l.end
-
-abbrev pub decreases-loop-slot : goal.decreases-loop-slot
-decreases-loop-slot l = l.end - l.slot
+invariant-loop-slot l = Erasing l.layout l.report l.initial.image l.image l.slot l.end

@@ -11,8 +11,5 @@ use Rattle.mend.proofs.judge.Given as goal
 
 abbrev pub invariant-loop-slot : goal.invariant-loop-slot
 invariant-loop-slot l =
-    (l.slot ≤ l.end) × Reported (report_of l.layout (view_of l.layout (bytes l.image))) l.initial.report l.report l.slot × (length l.list ≡ 1600)
+    Reported (report_of l.layout (view_of l.layout (bytes l.image))) l.initial.report l.report l.slot × (length l.list ≡ 1600)
     × Marks 1600 l.marks (owned (disk_after l.layout (view_of l.layout (bytes l.image)) l.slot) l.slot)
-
-abbrev pub decreases-loop-slot : goal.decreases-loop-slot
-decreases-loop-slot l = l.end - l.slot
