@@ -17,7 +17,7 @@ ghost use Rattle.slots.specs.Keys.{has_keys};
 ghost use Rattle.salvage.specs.Salvage.{drops, disk_after, report_of, survivors, erase_slots, wrong_system, salvage_image, map_changes, report_after};
 ghost use Rattle.mend.specs.Steps.{is_kept, kept_name, name_note, used_end, Reported, chain_said, Noted, is_dropped, is_lost, Judging};
 
-// What is said of a slot that is kept. Over it are the numbers of the rules that drop one, and 0 is said of an empty slot.
+// What is said of a slot that is kept; greater numbers drop one.
 const KEPT: u8 = 1;
 
 // Whether a slot is kept, and its name and type have these keys. Few names are alike, so the keys are asked first.
@@ -69,7 +69,7 @@ fn note(list: &mut [u16; 1600], k: usize, block: usize)
 }
 
 // What is said of a chain: 6 or 7 for its first fault, else 8 if it has a marked block, else 1. One walk tells all of it, and lists the blocks of
-// one that is kept.
+// one that is kept. The loop follows the links to the end mark, and asks at each block whether it is the last: over a range it asks no less.
 fn chain_said(
     image: &[u8],
     layout: layout::Layout,
@@ -111,7 +111,7 @@ fn chain_said(
 }
 
 // What the run says of a slot, by the report and the marks of the slots below it and by whether a used one of them has its name and type; the blocks of
-// one that is kept are listed.
+// one that is kept are listed. The numbers are the bytes of the report that C reads (document 02, request four): 0 empty, 1 kept, else the rule that drops it.
 fn verdict_of(
     image: &[u8],
     layout: layout::Layout,
