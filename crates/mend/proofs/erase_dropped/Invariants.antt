@@ -1,6 +1,5 @@
 -- `mend::erase_dropped` meets its contract: erasing what remains of the dropped slots makes what erasing all of them makes.
 -- Each turn erases one slot if the report drops it, as the definition does at each of those. Assumes nothing.
-use Rattle.std.proofs.Common.{◌-◌, ◌≤◌}
 use Rattle.mend.specs.Lemmas.Setting.{Erasing}
 use Rattle.mend.proofs.erase_dropped.Given as goal
 

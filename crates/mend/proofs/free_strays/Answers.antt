@@ -1,11 +1,7 @@
 -- `mend::free_strays` meets its contract: setting what remains of the lost blocks makes what setting all of them makes, and those set and those to come are all.
 -- The blocks ahead still hold what they held. Assumes nothing.
-use Rattle.std.proofs.Common.{ap, ◌∙◌, ℕ, false, not, ◌+◌, arith, eqb, get_or}
-use Rattle.laws.specs.Truth.{both}
-use Rattle.laws.specs.Reader.{bytes}
-use Rattle.map.specs.Map.{map_at}
-use Rattle.mend.specs.Lemmas.Setting.{Setting, setting_start, lost_turn, setting_image, setting_count, setting_few}
-use Rattle.mend.specs.Steps.{is_lost}
+use Rattle.std.proofs.Common.{◌∙◌, arith}
+use Rattle.mend.specs.Lemmas.Setting.{setting_start, lost_turn, setting_image, setting_count, setting_few}
 use Rattle.mend.proofs.free_strays.Goals as goal
 
 pub loop-block-init : goal.loop-block-init

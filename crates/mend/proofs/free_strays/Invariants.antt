@@ -1,6 +1,5 @@
 -- `mend::free_strays` meets its contract: setting what remains of the lost blocks makes what setting all of them makes, and those set and those to come are all.
 -- The blocks ahead still hold what they held. Assumes nothing.
-use Rattle.std.proofs.Common.{◌-◌, ◌≤◌}
 use Rattle.laws.specs.Reader.{bytes}
 use Rattle.map.specs.Map.{map_at}
 use Rattle.mend.specs.Lemmas.Setting.{Setting}

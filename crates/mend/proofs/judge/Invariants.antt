@@ -1,6 +1,6 @@
 -- `mend::judge` meets its contract: once the slots below the one in hand were judged, the report says so of them and the marks are those of the kept chains.
 -- Each turn judges one slot more; the slots past the used ones are empty, and noted so. Assumes nothing.
-use Rattle.std.proofs.Common.{◌≡◌, ◌-◌, ◌≤◌, length}
+use Rattle.std.proofs.Common.{◌≡◌, length}
 use Rattle.image.specs.Image.{view_of}
 use Rattle.laws.specs.Reader.{bytes}
 use Rattle.map.specs.Map.{Marks}

@@ -1,9 +1,7 @@
 -- `mend::restore_system` meets its contract: setting what remains of the wrong system blocks makes what setting all of them makes, and those set and those to
 -- come are all. The blocks ahead still hold what they held. Assumes nothing.
-use Rattle.std.proofs.Common.{◌≡◌, ap, ℕ, not, ◌+◌, ◌-◌, arith, eqb}
-use Rattle.laws.specs.Reader.{bytes}
-use Rattle.map.specs.Map.{map_at}
-use Rattle.mend.specs.Lemmas.Setting.{Setting, setting_start, wrong_turn, setting_image, setting_count, setting_few}
+use Rattle.std.proofs.Common.{◌≡◌, ◌-◌, arith}
+use Rattle.mend.specs.Lemmas.Setting.{setting_start, wrong_turn, setting_image, setting_count, setting_few}
 use Rattle.salvage.specs.Salvage.{wrong_system}
 use Rattle.view.specs.Rules.{bad_system}
 use Rattle.mend.proofs.restore_system.Goals as goal

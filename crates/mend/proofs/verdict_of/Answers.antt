@@ -1,12 +1,10 @@
 -- `mend::verdict_of` meets its contract: what it says is the run's verdict of the slot, and a kept slot's blocks are listed.
 -- Each test's answer is the run's on the disk without the lower slots that were dropped. Assumes nothing.
-use Rattle.std.proofs.Common.{◌≡◌, sym, ◌∙◌, true, false, arith, rules}
+use Rattle.std.proofs.Common.{sym, ◌∙◌, arith, rules}
 use Rattle.image.specs.Image.{view_of}
 use Rattle.laws.specs.Reader.{bytes}
 use Rattle.mend.specs.Lemmas.Noting.{noted_not}
 use Rattle.mend.specs.Lemmas.Verdicts.{verdict_empty, verdict-malformed, verdict-repeated, verdict-chain, noted_entry}
-use Rattle.view.specs.Disk.{used}
-use Rattle.view.specs.Rules.{malformed}
 use Rattle.mend.proofs.verdict_of.Goals as goal
 
 pub returns-then-not-is_used : goal.returns-then-not-is_used
