@@ -4,9 +4,9 @@ use Rattle.std.proofs.Common.{le-ltb, lt-ltb, refl}
 use Rattle.image.specs.Image.{erase_entry}
 use Rattle.mend.proofs.erase_if.Goals as goal
 
-pub returns-then-verdict-le1 : goal.returns-then-verdict-le1
-returns-then-verdict-le1 c = rw (le-ltb 1 _ c.if-verdict-le1.true) refl
-
-pub returns : goal.returns
+pub returns-then-verdict-gt-KEPT : goal.returns-then-verdict-gt-KEPT
 unfolding erase_entry
-returns c = rw (lt-ltb 1 _ c.if-verdict-le1.false) c.clear.ensures
+returns-then-verdict-gt-KEPT c = rw (lt-ltb 1 _ c.if-verdict-gt-KEPT.true) c.clear.ensures
+
+pub returns-else-verdict-gt-KEPT : goal.returns-else-verdict-gt-KEPT
+returns-else-verdict-gt-KEPT c = rw (le-ltb 1 _ c.if-verdict-gt-KEPT.false) refl

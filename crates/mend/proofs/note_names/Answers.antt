@@ -6,6 +6,7 @@ use Rattle.laws.specs.Reader.{bytes}
 use Rattle.laws.specs.Truth.{pick}
 use Rattle.layout.specs.declared.Layout.{Layout}
 use Rattle.mend.specs.Lemmas.Verdicts.{reported_none, reported_turn, end_low, noted_above}
+use Rattle.mend.specs.Lemmas.Setting.{told}
 use Rattle.mend.specs.Steps.{used_end}
 use Rattle.mend.proofs.note_names.Goals as goal
 
@@ -31,7 +32,7 @@ bounds-report-slot c = omega (arith, few c.args.layout c.args.image.now c.args.e
 pub loop-slot-preserved : goal.loop-slot-preserved
 loop-slot-preserved c =
     let turn = c.repeats-twice.ensures in
-    (reported_turn _ _ _ _ _ (omega (arith, c.requires.2, few c.args.layout c.args.image.now c.args.end c.requires.3)) (c.note_of.ensures ∙ ap (λ (x : Bool). pick x 1 0) turn.answer) c.loop-slot.invariant.0, turn.tops_on, turn.lowers_on)
+    (reported_turn _ _ _ _ _ (omega (arith, c.requires.2, few c.args.layout c.args.image.now c.args.end c.requires.3)) (c.from.ensures ∙ told _ ∙ ap (λ (x : Bool). pick x 1 0) turn.answer) c.loop-slot.invariant.0, turn.tops_on, turn.lowers_on)
 
 pub clear-requires : goal.clear-requires
 clear-requires c = omega (arith, few c.args.layout c.args.image.now c.args.end c.requires.3, c.requires.2, c.loop-slot.invariant.0.size)
