@@ -1,8 +1,8 @@
 // The calls' answers as lines.
 ghost use Rattle.std.specs.Prelude.{◌<◌};
 
-use calls::{Entry, Metered, Piece};
 use crate::print;
+use calls::{Entry, Metered, Piece};
 use laws::Refusal;
 use std::io;
 use std::io::Print;
@@ -109,7 +109,10 @@ pub(crate) fn cost(
 ) -> io::Result<()> {
     let mut out = [0u8; 65536];
     if size <= 65536 {
-        print_metered(output, calls::metered_page(image, slot, offset, &mut out[..size]))?;
+        print_metered(
+            output,
+            calls::metered_page(image, slot, offset, &mut out[..size]),
+        )?;
     }
     Ok(())
 }

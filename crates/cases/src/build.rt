@@ -158,7 +158,13 @@ pub(crate) fn set_entry(image: &mut Image, text: &[u8]) {
         set_name(image, at, text, fields.name, 10, false);
         set_words(image, moved(at, 10), 0, 3, 2);
     }
-    set_file(image, at, usize::from(fields.letter), fields.size, fields.start);
+    set_file(
+        image,
+        at,
+        usize::from(fields.letter),
+        fields.size,
+        fields.start,
+    );
 }
 
 // Stores a slot of the second directory, with its identity.

@@ -83,7 +83,11 @@ fn ask(output: Stdout, image: &[u8], text: &[u8]) -> io::Result<()> {
 // Runs a command that mends the image.
 fn mend(output: Stdout, image: &mut [u8], text: &[u8]) -> io::Result<()> {
     match line::byte_at(text, 0) {
-        b's' => answers::salvage(output, image, line::number(text, line::word_end(text)).value),
+        b's' => answers::salvage(
+            output,
+            image,
+            line::number(text, line::word_end(text)).value,
+        ),
         _ => Ok(()),
     }
 }

@@ -51,8 +51,13 @@ pub(crate) fn file(output: Stdout, entry: Entry) -> io::Result<()> {
     let name = entry.name;
     if entry.letters <= 12 {
         let mut out = [0u8; 24576];
-        let count =
-            listing::put_file(entry.letter, entry.length, &name[..entry.letters], &mut out, 0);
+        let count = listing::put_file(
+            entry.letter,
+            entry.length,
+            &name[..entry.letters],
+            &mut out,
+            0,
+        );
         first(output, &out, count)?;
     }
     Ok(())
