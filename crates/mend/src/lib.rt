@@ -17,6 +17,9 @@ ghost use Rattle.slots.specs.Keys.{has_keys};
 ghost use Rattle.salvage.specs.Salvage.{drops, disk_after, report_of, survivors, erase_slots, wrong_system, salvage_image, map_changes, report_after};
 ghost use Rattle.mend.specs.Steps.{is_kept, kept_name, name_note, used_end, Reported, chain_said, Noted, is_dropped, is_lost, Judging};
 
+// What is said of a slot that is kept; greater numbers drop one.
+const KEPT: u8 = 1;
+
 // Whether a slot is kept, and its name and type have these keys. Few names are alike, so the keys are asked first.
 fn kept_with(
     image: &[u8],
@@ -28,7 +31,7 @@ fn kept_with(
     requires { (slot_offset layout slot + 24 ≤ length image.now) × (slot < length report.now) }
     ensures { result ≡ both (is_kept report.now slot) (has_keys layout (bytes image.now) slot keys.low keys.high keys.letter) }
 {
-    slots::has_keys(image, layout, slot, keys) && report[slot] == 1
+    slots::has_keys(image, layout, slot, keys) && report[slot] == KEPT
 }
 
 // Whether a kept slot below has a slot's name and type; the report says which are kept. Keys and type are read once.
@@ -51,20 +54,7 @@ fn name_stands(
     requires { (slot_offset layout slot + 24 ≤ length image.now) × (slot ≤ length report.now) × (used ((view_of layout (bytes image.now)).entry slot) ≡ true) × (twice ≡ repeated layout (view_of layout (bytes image.now)) slot) }
     ensures { result ≡ any (kept_name layout (view_of layout (bytes image.now)) report.now slot) 0 slot }
 {
-    if !twice {
-        return false;
-    }
-    name_kept(image, layout, report, slot)
-}
-
-// Whether one or the other holds.
-fn either(one: bool, other: bool) -> bool
-    ensures { result ≡ pick one true other }
-{
-    if one {
-        return true;
-    }
-    other
+    twice && name_kept(image, layout, report, slot)
 }
 
 // Notes the k-th block of a walk in a list, as far as that goes: no faultless chain is longer.
@@ -79,7 +69,7 @@ fn note(list: &mut [u16; 1600], k: usize, block: usize)
 }
 
 // What is said of a chain: 6 or 7 for its first fault, else 8 if it has a marked block, else 1. One walk tells all of it, and lists the blocks of
-// one that is kept.
+// one that is kept. No `for`: over 0..=links it would ask the same at each block, and need an answer behind its end.
 fn chain_said(
     image: &[u8],
     layout: layout::Layout,
@@ -100,7 +90,7 @@ fn chain_said(
         if !map::is_link(layout, block) {
             return 6;
         }
-        shared = either(shared, marks[block]);
+        shared |= marks[block];
         note(list, k, block);
         let value = map::map_at(image, block);
         if k == links {
@@ -110,7 +100,7 @@ fn chain_said(
             if shared {
                 return 8;
             }
-            return 1;
+            return KEPT;
         }
         if value == mark {
             return 7;
@@ -121,7 +111,7 @@ fn chain_said(
 }
 
 // What the run says of a slot, by the report and the marks of the slots below it and by whether a used one of them has its name and type; the blocks of
-// one that is kept are listed.
+// one that is kept are listed. The numbers are the bytes of the report that C reads (document 02, request four): 0 empty, 1 kept, else the rule that drops it.
 fn verdict_of(
     image: &[u8],
     layout: layout::Layout,
@@ -161,21 +151,10 @@ fn mark_kept(
     requires { LayoutRight layout × (block_offset layout.first ≤ length image.now) × (slot < layout.slots) × (verdict ≡ report_of layout (view_of layout (bytes image.now)) slot) × Noted list.now verdict (entry_chain (map_at (bytes image.now)) ((view_of layout (bytes image.now)).entry slot)) × Marks 1600 marks.old (owned (disk_after layout (view_of layout (bytes image.now)) slot) slot) }
     ensures { Marks 1600 marks.new (owned (disk_after layout (view_of layout (bytes image.now)) (slot + 1)) (slot + 1)) }
 {
-    if verdict != 1 {
-        return;
+    if verdict == KEPT {
+        let count = chains::links_of(image, layout, slot) + 1;
+        map::mark_blocks(marks, &list[..count]);
     }
-    let count = chains::links_of(image, layout, slot) + 1;
-    map::mark_blocks(marks, &list[..count]);
-}
-
-// 1 or 0, as a byte of the report.
-fn note_of(twice: bool) -> u8
-    ensures { result ≡ pick twice 1 0 }
-{
-    if twice {
-        return 1;
-    }
-    0
 }
 
 // How far the used slots go, so that the passes end there: slots are filled from the lowest on.
@@ -183,12 +162,10 @@ fn used_end(image: &[u8], layout: layout::Layout) -> usize
     requires { slot_offset layout layout.slots ≤ length image.now }
     ensures { result ≡ used_end (view_of layout (bytes image.now)) layout.slots }
 {
-    let mut end = layout.slots;
-    while end != 0 {
-        if slots::is_used(image, layout, end - 1) {
-            return end;
+    for slot in (0..layout.slots).rev() {
+        if slots::is_used(image, layout, slot) {
+            return slot + 1;
         }
-        end -= 1;
     }
     0
 }
@@ -202,7 +179,7 @@ fn note_names(image: &[u8], layout: layout::Layout, report: &mut [u8], end: usiz
     let mut table = slots::Table::new();
     for slot in 0..end {
         let twice = table.repeats(image, layout, slot);
-        report[slot] = note_of(twice);
+        report[slot] = u8::from(twice);
     }
     blocks::clear(report, end, rest);
 }
@@ -218,13 +195,11 @@ fn judge(image: &[u8], layout: layout::Layout, report: &mut [u8], marks: &mut [b
     let end = used_end(image, layout);
     note_names(image, layout, report, end);
     let mut list = [0u16; 1600];
-    let mut slot = 0;
-    while slot < end {
+    for slot in 0..end {
         let twice = report[slot] == 1;
         let verdict = verdict_of(image, layout, report, marks, &mut list, twice, slot);
         mark_kept(image, layout, marks, &list, slot, verdict);
         report[slot] = verdict;
-        slot += 1;
     }
     end
 }
@@ -234,10 +209,9 @@ fn erase_if(image: &mut [u8], layout: layout::Layout, slot: usize, verdict: u8)
     requires { slot_offset layout slot + 22 ≤ length image.old }
     ensures { image.new ≡ pick (drops verdict) (erase_entry image.old (slot_offset layout slot)) image.old }
 {
-    if verdict <= 1 {
-        return;
+    if verdict > KEPT {
+        blocks::clear(image, layout.directory + 24 * slot, 22);
     }
-    blocks::clear(image, layout.directory + 24 * slot, 22);
 }
 
 // Erases the slots below the end that the report drops.
@@ -245,10 +219,8 @@ fn erase_dropped(image: &mut [u8], layout: layout::Layout, report: &[u8], end: u
     requires { (slot_offset layout end ≤ length image.old) × (end ≤ length report.now) }
     ensures { image.new ≡ erase_slots layout image.old (those (is_dropped report.now) 0 end) }
 {
-    let mut slot = 0;
-    while slot < end {
+    for slot in 0..end {
         erase_if(image, layout, slot, report[slot]);
-        slot += 1;
     }
 }
 
@@ -271,35 +243,11 @@ fn restore_system(image: &mut [u8], layout: layout::Layout) -> usize
     ensures image_after { image.new ≡ set_all image.old (wrong_system layout (view_of layout (bytes image.old))) layout.reserved }
     ensures value { result ≡ count (bad_system layout (view_of layout (bytes image.old))) 0 layout.system }
 {
-    let end = layout.system;
-    let reserved = layout.reserved;
     let mut changed = 0;
-    let mut block = 0;
-    while block < end {
-        changed += set_value(image, block, reserved);
-        block += 1;
+    for block in 0..layout.system {
+        changed += set_value(image, block, layout.reserved);
     }
     changed
-}
-
-// A block's map value afterwards: its own if it is marked, else 0.
-fn value_after(value: u16, marked: bool) -> u16
-    ensures { result ≡ pick marked value 0 }
-{
-    if marked {
-        return value;
-    }
-    0
-}
-
-// 1 for two values that differ, else 0.
-fn one_if_other(value: u16, after: u16) -> u16
-    ensures { result ≡ pick (eqb value after) 0 1 }
-{
-    if value == after {
-        return 0;
-    }
-    1
 }
 
 // Frees a block that isn't marked: 1 if its map value was another, else 0. A marked block's own value is stored again: without a branch, and in
@@ -310,9 +258,9 @@ fn free_value(image: &mut [u8], marks: &[bool; 1600], block: usize) -> u16
     ensures value { result ≡ pick (is_lost (map_at (bytes image.old)) marks.now block) 1 0 }
 {
     let value = map::map_at(image, block) as u16;
-    let after = value_after(value, marks[block]);
-    map::set_map(image, block, after as usize);
-    one_if_other(value, after)
+    let after = if marks[block] { value } else { 0 };
+    map::set_map(image, block, usize::from(after));
+    u16::from(value != after)
 }
 
 // Frees the data blocks that aren't marked: how many map values were others.
@@ -321,14 +269,11 @@ fn free_strays(image: &mut [u8], layout: layout::Layout, marks: &[bool; 1600]) -
     ensures image_after { image.new ≡ set_all image.old (those (is_lost (map_at (bytes image.old)) marks.now) layout.first (layout.blocks - layout.first)) 0 }
     ensures value { result ≡ count (is_lost (map_at (bytes image.old)) marks.now) layout.first (layout.blocks - layout.first) }
 {
-    let end = layout.blocks;
     let mut changed = 0u16;
-    let mut block = layout.first;
-    while block < end {
+    for block in layout.first..layout.blocks {
         changed += free_value(image, marks, block);
-        block += 1;
     }
-    changed as usize
+    usize::from(changed)
 }
 
 // The run: how many map values are others afterwards.

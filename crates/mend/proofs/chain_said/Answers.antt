@@ -1,12 +1,10 @@
 -- `mend::chain_said` meets its contract: what is said of the rest of the chain, after what was met so far, is what is said of the whole chain, and the blocks
 -- gone through are noted. The block in hand is a data block before it is looked up, so below 1,600. Assumes nothing.
-use Rattle.std.proofs.Common.{◌≡◌, refl, sym, ap, ◌∙◌, Bool, true, ◌+◌, ◌-◌, ◌≤◌, arith}
-use Rattle.laws.specs.Reader.{bytes}
+use Rattle.std.proofs.Common.{◌≡◌, refl, sym, ap, ◌∙◌, Bool, ◌+◌, ◌-◌, ◌≤◌, arith}
 use Rattle.laws.specs.Truth.{pick}
 use Rattle.map.specs.Lemmas.Chains.{nth_first, nth_next}
 use Rattle.map.specs.Lemmas.Walks.{link_data}
-use Rattle.map.specs.Map.{map_at, Data, is_link, chain}
-use Rattle.mend.specs.Lemmas.Noting.{Noting, noting_none, noting_one, noted_not, noted_whole}
+use Rattle.mend.specs.Lemmas.Noting.{noting_none, noting_one, noted_not, noted_whole}
 use Rattle.mend.specs.Lemmas.Walking.{said_astray, said_cut, said_early, said_last, said_on}
 use Rattle.mend.proofs.chain_said.Goals as goal
 
@@ -17,75 +15,70 @@ loop-layout-init c =
 
 pub returns-then-not-is_link : goal.returns-then-not-is_link
 returns-then-not-is_link c =
-    let k = c.loop-layout in
-    record { value = sym (k.invariant.1 ∙ said_astray _ _ _ _ _ _ (sym c.is_link.ensures ∙ c.if-not-is_link.true)); noted = noted_not k.invariant.3.size (λ e. omega arith) }
+    let i = c.loop-layout.invariant in
+    record { value = sym (i.1 ∙ said_astray _ _ _ _ _ _ (sym c.is_link.ensures ∙ c.if-not-is_link.true)); noted = noted_not i.3.size (λ e. omega arith) }
 
 pub bounds-marks-block : goal.bounds-marks-block
 bounds-marks-block c =
-    let linked : (c.is_link.result ≡ true → is_link c.args.layout c.loop-layout.block ≡ true) = λ e. sym c.is_link.ensures ∙ e in
-    let inside : (c.is_link.result ≡ true → Data c.args.layout c.loop-layout.block) = λ e. link_data _ _ (linked e) in
-    omega (arith, (inside (c.if-not-is_link.false)).1, c.requires.0.blocks_most)
+    let linked = sym c.is_link.ensures ∙ c.if-not-is_link.false in
+    omega (arith, (link_data _ _ linked).1, c.requires.0.blocks_most)
 
 pub note-requires : goal.note-requires
 note-requires c =
-    let linked : (c.is_link.result ≡ true → is_link c.args.layout c.loop-layout.block ≡ true) = λ e. sym c.is_link.ensures ∙ e in
-    let inside : (c.is_link.result ≡ true → Data c.args.layout c.loop-layout.block) = λ e. link_data _ _ (linked e) in
-    omega (arith, (inside (c.if-not-is_link.false)).1, c.requires.0.blocks_most)
+    let linked = sym c.is_link.ensures ∙ c.if-not-is_link.false in
+    omega (arith, (link_data _ _ linked).1, c.requires.0.blocks_most)
 
 pub map_at-value-requires : goal.map_at-value-requires
 map_at-value-requires c =
-    let linked : (c.is_link.result ≡ true → is_link c.args.layout c.loop-layout.block ≡ true) = λ e. sym c.is_link.ensures ∙ e in
-    let inside : (c.is_link.result ≡ true → Data c.args.layout c.loop-layout.block) = λ e. link_data _ _ (linked e) in
-    omega (arith, (inside (c.if-not-is_link.false)).1, c.requires.1)
+    let linked = sym c.is_link.ensures ∙ c.if-not-is_link.false in
+    omega (arith, (link_data _ _ linked).1, c.requires.1)
 
 pub returns-then-value-mark : goal.returns-then-value-mark
 returns-then-value-mark c =
-    let linked : (c.is_link.result ≡ true → is_link c.args.layout c.loop-layout.block ≡ true) = λ e. sym c.is_link.ensures ∙ e in
-    let noted : (Noting c.note.new.list (chain (map_at (bytes c.args.image.now)) c.args.links c.args.start) (c.loop-layout.k + 1)) = let k = c.loop-layout in noting_one _ _ _ _ k.invariant.3 k.invariant.2 c.note.ensures in
-    let k = c.loop-layout in
-    record { value = sym (k.invariant.1 ∙ said_cut _ _ _ _ _ (linked (c.if-not-is_link.false)) c.map_at-value.ensures _ (omega arith) c.if-value-mark.true); noted = noted_not noted.size (λ e. omega arith) }
-
-pub returns-then-shared : goal.returns-then-shared
-returns-then-shared c =
-    let linked : (c.is_link.result ≡ true → is_link c.args.layout c.loop-layout.block ≡ true) = λ e. sym c.is_link.ensures ∙ e in
-    let noted : (Noting c.note.new.list (chain (map_at (bytes c.args.image.now)) c.args.links c.args.start) (c.loop-layout.k + 1)) = let k = c.loop-layout in noting_one _ _ _ _ k.invariant.3 k.invariant.2 c.note.ensures in
-    let k = c.loop-layout in
+    let linked = sym c.is_link.ensures ∙ c.if-not-is_link.false in
+    let i = c.loop-layout.invariant in
+    let noted = noting_one _ _ _ _ i.3 i.2 c.note.ensures in
     record {
-      value = sym (k.invariant.1
-          ∙ said_last _ _ _ _ _ (linked (c.if-not-is_link.false)) c.map_at-value.ensures c.either-shared.ensures _ (omega arith) c.if-value-mark.false
-          ∙ ap (λ (t : Bool). pick t 8 1) c.if-shared.true);
+      value = sym (i.1 ∙ said_cut _ _ _ _ _ linked c.map_at-value.ensures _ (omega arith) c.if-value-mark.true);
       noted = noted_not noted.size (λ e. omega arith);
     }
 
+pub returns-then-shared : goal.returns-then-shared
+returns-then-shared c =
+    let linked = sym c.is_link.ensures ∙ c.if-not-is_link.false in
+    let i = c.loop-layout.invariant in
+    let noted = noting_one _ _ _ _ i.3 i.2 c.note.ensures in
+    let last = said_last _ _ _ _ _ linked c.map_at-value.ensures _ (omega arith) c.if-value-mark.false in
+    record { value = sym (i.1 ∙ last ∙ ap (λ (t : Bool). pick t 8 1) c.if-shared.true); noted = noted_not noted.size (λ e. omega arith) }
+
 pub returns-then-k-links : goal.returns-then-k-links
 returns-then-k-links c =
-    let linked : (c.is_link.result ≡ true → is_link c.args.layout c.loop-layout.block ≡ true) = λ e. sym c.is_link.ensures ∙ e in
-    let noted : (Noting c.note.new.list (chain (map_at (bytes c.args.image.now)) c.args.links c.args.start) (c.loop-layout.k + 1)) = let k = c.loop-layout in noting_one _ _ _ _ k.invariant.3 k.invariant.2 c.note.ensures in
-    let k = c.loop-layout in
-    let e =
-    sym (k.invariant.1
-    ∙ said_last _ _ _ _ _ (linked (c.if-not-is_link.false)) c.map_at-value.ensures c.either-shared.ensures _ (omega arith) c.if-value-mark.false
-    ∙ ap (λ (t : Bool). pick t 8 1) c.if-shared.false) in
+    let linked = sym c.is_link.ensures ∙ c.if-not-is_link.false in
+    let i = c.loop-layout.invariant in
+    let noted = noting_one _ _ _ _ i.3 i.2 c.note.ensures in
+    let last = said_last _ _ _ _ _ linked c.map_at-value.ensures _ (omega arith) c.if-value-mark.false in
+    let e = sym (i.1 ∙ last ∙ ap (λ (t : Bool). pick t 8 1) c.if-shared.false) in
     record { value = e; noted = noted_whole _ c.requires.0 _ _ _ _ e (rw c.if-k-links.true at noted) }
 
 pub returns-then-value-mark-2 : goal.returns-then-value-mark-2
 returns-then-value-mark-2 c =
-    let linked : (c.is_link.result ≡ true → is_link c.args.layout c.loop-layout.block ≡ true) = λ e. sym c.is_link.ensures ∙ e in
-    let noted : (Noting c.note.new.list (chain (map_at (bytes c.args.image.now)) c.args.links c.args.start) (c.loop-layout.k + 1)) = let k = c.loop-layout in noting_one _ _ _ _ k.invariant.3 k.invariant.2 c.note.ensures in
-    let k = c.loop-layout in
-    record { value = sym (k.invariant.1 ∙ said_early _ _ _ _ _ (linked (c.if-not-is_link.false)) c.map_at-value.ensures _ (λ z. c.if-k-links.false (omega arith)) c.if-value-mark-2.true); noted = noted_not noted.size (λ e. omega arith) }
+    let linked = sym c.is_link.ensures ∙ c.if-not-is_link.false in
+    let i = c.loop-layout.invariant in
+    let noted = noting_one _ _ _ _ i.3 i.2 c.note.ensures in
+    record {
+      value = sym (i.1 ∙ said_early _ _ _ _ _ linked c.map_at-value.ensures _ (λ z. c.if-k-links.false (omega arith)) c.if-value-mark-2.true);
+      noted = noted_not noted.size (λ e. omega arith);
+    }
 
 pub loop-layout-preserved : goal.loop-layout-preserved
 loop-layout-preserved c =
-    let linked : (c.is_link.result ≡ true → is_link c.args.layout c.loop-layout.block ≡ true) = λ e. sym c.is_link.ensures ∙ e in
-    let noted : (Noting c.note.new.list (chain (map_at (bytes c.args.image.now)) c.args.links c.args.start) (c.loop-layout.k + 1)) = let k = c.loop-layout in noting_one _ _ _ _ k.invariant.3 k.invariant.2 c.note.ensures in
+    let linked = sym c.is_link.ensures ∙ c.if-not-is_link.false in
     let k = c.loop-layout in
+    let i = k.invariant in
     let more : k.k + 1 ≤ c.args.links = let n = c.if-k-links.false in omega arith in
     let z : c.args.links - (k.k + 1) ≡ c.args.links - k.k - 1 = omega arith in (
       more,
-      rw z
-          (k.invariant.1
-          ∙ said_on _ _ _ _ _ (linked (c.if-not-is_link.false)) c.map_at-value.ensures c.either-shared.ensures _ (λ e. c.if-k-links.false (omega arith)) c.if-value-mark-2.false),
-      nth_next _ _ _ k.k k.invariant.2 c.map_at-value.ensures (omega arith) refl,
-      noted,
+      rw z (i.1 ∙ said_on _ _ _ _ _ linked c.map_at-value.ensures _ (λ e. c.if-k-links.false (omega arith)) c.if-value-mark-2.false),
+      nth_next _ _ _ k.k i.2 c.map_at-value.ensures (omega arith) refl,
+      noting_one _ _ _ _ i.3 i.2 c.note.ensures,
     )

@@ -1,6 +1,5 @@
 -- `mend::free_strays` meets its contract: setting what remains of the lost blocks makes what setting all of them makes, and those set and those to come are all.
 -- The blocks ahead still hold what they held. Assumes nothing.
-use Rattle.std.proofs.Common.{◌-◌, ◌≤◌}
 use Rattle.laws.specs.Reader.{bytes}
 use Rattle.map.specs.Map.{map_at}
 use Rattle.mend.specs.Lemmas.Setting.{Setting}
@@ -9,7 +8,4 @@ use Rattle.mend.proofs.free_strays.Given as goal
 
 abbrev pub invariant-loop-block : goal.invariant-loop-block
 invariant-loop-block l =
-    (l.initial.block ≤ l.block) × (l.block ≤ l.end) × Setting (is_lost (map_at (bytes l.initial.image)) l.marks) 0 l.initial.image l.image l.initial.block l.block l.end l.changed
-
-abbrev pub decreases-loop-block : goal.decreases-loop-block
-decreases-loop-block l = l.end - l.block
+    Setting (is_lost (map_at (bytes l.initial.image)) l.marks) 0 l.initial.image l.image l.fn.layout.first l.block l.block-end l.changed

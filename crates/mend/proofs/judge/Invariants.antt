@@ -1,6 +1,6 @@
 -- `mend::judge` meets its contract: once the slots below the one in hand were judged, the report says so of them and the marks are those of the kept chains.
 -- Each turn judges one slot more; the slots past the used ones are empty, and noted so. Assumes nothing.
-use Rattle.std.proofs.Common.{◌≡◌, ◌-◌, ◌≤◌, length}
+use Rattle.std.proofs.Common.{◌≡◌, length}
 use Rattle.image.specs.Image.{view_of}
 use Rattle.laws.specs.Reader.{bytes}
 use Rattle.map.specs.Map.{Marks}
@@ -11,8 +11,5 @@ use Rattle.mend.proofs.judge.Given as goal
 
 abbrev pub invariant-loop-slot : goal.invariant-loop-slot
 invariant-loop-slot l =
-    (l.slot ≤ l.end) × Reported (report_of l.layout (view_of l.layout (bytes l.image))) l.initial.report l.report l.slot × (length l.list ≡ 1600)
+    Reported (report_of l.layout (view_of l.layout (bytes l.image))) l.initial.report l.report l.slot × (length l.list ≡ 1600)
     × Marks 1600 l.marks (owned (disk_after l.layout (view_of l.layout (bytes l.image)) l.slot) l.slot)
-
-abbrev pub decreases-loop-slot : goal.decreases-loop-slot
-decreases-loop-slot l = l.end - l.slot

@@ -4,5 +4,5 @@ use Rattle.std.proofs.Common.{sym, ◌∙◌}
 use Rattle.mend.specs.Lemmas.Verdicts.{kept_none}
 use Rattle.mend.proofs.name_stands.Goals as goal
 
-pub returns-then-not-twice : goal.returns-then-not-twice
-returns-then-not-twice c = sym (kept_none _ _ _ _ c.requires.2 (sym c.requires.3 ∙ c.if-not-twice.true))
+pub returns-else-twice : goal.returns-else-twice
+returns-else-twice c = c.if-twice.false ∙ sym (kept_none _ _ _ _ c.requires.2 (sym c.requires.3 ∙ c.if-twice.false))

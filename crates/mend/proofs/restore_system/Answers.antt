@@ -1,34 +1,24 @@
 -- `mend::restore_system` meets its contract: setting what remains of the wrong system blocks makes what setting all of them makes, and those set and those to
 -- come are all. The blocks ahead still hold what they held. Assumes nothing.
-use Rattle.std.proofs.Common.{◌≡◌, not, ◌+◌, ◌-◌, arith, eqb}
-use Rattle.laws.specs.Reader.{bytes}
-use Rattle.map.specs.Map.{map_at}
-use Rattle.mend.specs.Lemmas.Setting.{Setting, setting_start, setting_turn, setting_image, setting_count, setting_few}
+use Rattle.std.proofs.Common.{◌≡◌, ◌-◌, arith}
+use Rattle.mend.specs.Lemmas.Setting.{wrong_turn, setting_image, setting_count, setting_few}
 use Rattle.salvage.specs.Salvage.{wrong_system}
 use Rattle.view.specs.Rules.{bad_system}
 use Rattle.mend.proofs.restore_system.Goals as goal
 
-pub loop-block-init : goal.loop-block-init
-loop-block-init c = (omega arith, setting_start _ _ _ _ _)
-
-pub set_value-changed-requires : goal.set_value-changed-requires
-set_value-changed-requires c =
-    omega (arith, c.requires.0.map-low, c.requires.0.system_low, c.requires.0.data_some, c.loop-block.invariant.1.size)
-
 pub overflow_add-changed : goal.overflow_add-changed
 overflow_add-changed c =
-    let turned : (let k = c.loop-block in let a = c.args in Setting (λ b. not (eqb (map_at (bytes a.image.now) b) a.layout.reserved)) a.layout.reserved a.image.now c.set_value-changed.new.image 0 (k.block + 1) a.layout.system (k.changed + c.set_value-changed.result)) = let k = c.loop-block in let w = c.set_value-changed.ensures in let same = k.invariant.1.ahead k.block (omega arith) in setting_turn _ _ _ _ _ _ _ _ k.invariant.1 c.loop-block-test.true (rw same at w.image_after) (rw same at w.value) in
+    let w = c.set_value-changed.ensures in
+    let turned = wrong_turn c.loop-block.invariant c.loop-block-test.true w.image_after w.value in
     omega (arith, c.requires.0.blocks_most, c.requires.0.system_low, c.requires.0.data_some, setting_few _ _ _ _ _ turned)
 
 pub loop-block-preserved : goal.loop-block-preserved
-loop-block-preserved c =
-    let again : (let k = c.loop-block in let a = c.args in Setting (λ b. not (eqb (map_at (bytes a.image.now) b) a.layout.reserved)) a.layout.reserved a.image.now c.set_value-changed.new.image 0 (k.block + 1) a.layout.system (k.changed + c.set_value-changed.result)) = let k = c.loop-block in let w = c.set_value-changed.ensures in let same = k.invariant.1.ahead k.block (omega arith) in setting_turn _ _ _ _ _ _ _ _ k.invariant.1 c.loop-block-test.true (rw same at w.image_after) (rw same at w.value) in
-    (omega arith, again)
+loop-block-preserved c = let w = c.set_value-changed.ensures in wrong_turn c.loop-block.invariant c.loop-block-test.true w.image_after w.value
 
 pub returns : goal.returns
 unfolding wrong_system bad_system
 returns c =
-    let s = c.loop-block.invariant.1 in
-    let a = c.args in
-    let z : a.layout.system - 0 ≡ a.layout.system = omega arith in
-    record { image_after = rw z at (setting_image _ _ _ _ _ c.loop-block-test.false s); value = rw z at (setting_count _ _ _ _ _ c.loop-block-test.false s) }
+    let s = c.loop-block.invariant in
+    let end = c.loop-block-test.false in
+    let z : c.args.layout.system - 0 ≡ c.args.layout.system = omega arith in
+    record { image_after = rw z at (setting_image _ _ _ _ _ end s); value = rw z at (setting_count _ _ _ _ _ end s) }

@@ -4,6 +4,7 @@ use Rattle.std.specs.Prelude.{◌≡◌, refl, Bool, not, ℕ, ◌+◌, ◌-◌,
 use Rattle.std.proofs.Math.Path.{sym, ap}
 use Rattle.std.proofs.Common.{◌∙◌, arith, eqb-true, eq-eqb}
 use Rattle.std.proofs.Math.Bool.{true, false}
+use mir.Val.{bool_byte}
 use mathlib.Core.List.{List}
 use Rattle.std.proofs.Math.ListN.{length}
 use Rattle.laws.specs.Truth.{pick, both}
@@ -49,8 +50,8 @@ module _ (f : ℕ → Bool) (value : ℕ) (img₀ : List ℕ) (a n : ℕ) where
       counted = omega (arith, c, count-on f i n h e, s.counted);
     }
 
-    pub setting_turn : {after : List ℕ} {r : ℕ} → after ≡ pick (f i) (set_map img i value) img → r ≡ pick (f i) 1 0 → Setting f value img₀ after a (i + 1) n (changed + r)
-    setting_turn = turn_by (f i) refl
+    pub setting_turn : {t : Bool} → t ≡ f i → {after : List ℕ} {r : ℕ} → after ≡ pick t (set_map img i value) img → r ≡ pick t 1 0 → Setting f value img₀ after a (i + 1) n (changed + r)
+    setting_turn {t} e = turn_by t (sym e)
 
   module _ {img : List ℕ} {i changed : ℕ} (h : n ≤ i) (s : Setting f value img₀ img a i n changed) where
     pub setting_image : img ≡ set_all img₀ (those f a (n - a)) value
@@ -64,6 +65,17 @@ module _ (f : ℕ → Bool) (value : ℕ) (img₀ : List ℕ) (a n : ℕ) where
   pub setting_few : {img : List ℕ} {i changed : ℕ} → Setting f value img₀ img a i n changed → changed ≤ n - a
   setting_few s = omega (arith, s.counted, count_split f a (n - a))
 
+-- a turn where the block in hand is asked as it is by then: it still holds what it held
+pub wrong_turn : {reserved a i n changed : ℕ} {img₀ img after : List ℕ} {r : ℕ} → Setting (λ b. not (eqb (map_at (bytes img₀) b) reserved)) reserved img₀ img a i n changed → i < n
+    → after ≡ pick (not (eqb (map_at (bytes img) i) reserved)) (set_map img i reserved) img → r ≡ pick (not (eqb (map_at (bytes img) i) reserved)) 1 0
+    → Setting (λ b. not (eqb (map_at (bytes img₀) b) reserved)) reserved img₀ after a (i + 1) n (changed + r)
+wrong_turn {reserved} {i = i} s h = setting_turn _ _ _ _ _ _ _ _ s h (ap (λ (x : ℕ). not (eqb x reserved)) (s.ahead i (omega arith)))
+
+pub lost_turn : (marks : List Bool) {a i n changed : ℕ} {img₀ img after : List ℕ} {r : ℕ} → Setting (is_lost (map_at (bytes img₀)) marks) 0 img₀ img a i n changed → i < n
+    → after ≡ pick (is_lost (map_at (bytes img)) marks i) (set_map img i 0) img → r ≡ pick (is_lost (map_at (bytes img)) marks i) 1 0
+    → Setting (is_lost (map_at (bytes img₀)) marks) 0 img₀ after a (i + 1) n (changed + r)
+lost_turn marks {i = i} s h = setting_turn _ _ _ _ _ _ _ _ s h (ap (λ (x : ℕ). both (not (eqb x 0)) (not (get_or marks i false))) (s.ahead i (omega arith)))
+
 -- a marked block stays, any other is freed unless it is free
 pub lost_marked : (m : ℕ → ℕ) (marks : List Bool) (b : ℕ) → get_or marks b false ≡ true → is_lost m marks b ≡ false
 lost_marked m marks b e = false_both (not (eqb (m b) 0)) (not (get_or marks b false)) (λ z. rw e refl)
@@ -75,10 +87,15 @@ lost_other m marks b e = go (not (eqb (m b) 0)) (not (get_or marks b false)) (ap
     go true u p = p
     go false u p = refl
 
+-- a test as a number
+pub told : (t : Bool) → bool_byte t ≡ pick t 1 0
+told true = refl
+told false = refl
+
 -- a block's value stored again if it is marked, else 0
 module _ (img : List ℕ) (marks : List Bool) (b : ℕ) (fits : map_offset b + 2 ≤ length img) (small : (i : ℕ) → bytes img i < 256)
     {value after r : ℕ} {out : List ℕ} (was : value ≡ map_at (bytes img) b) (is : after ≡ pick (get_or marks b false) value 0)
-    (stored : out ≡ set_map img b after) (one : r ≡ pick (eqb value after) 0 1) where
+    (stored : out ≡ set_map img b after) (one : r ≡ pick (not (eqb value after)) 1 0) where
   abbrev Freed : Type 0
   Freed =
       (out ≡ pick (is_lost (map_at (bytes img)) marks b) (set_map img b 0) img) × (r ≡ pick (is_lost (map_at (bytes img)) marks b) 1 0)

@@ -1,6 +1,6 @@
 -- What is said of a chain, turn by turn of the loop that walks it: the block in hand decides, or the rest of the chain does.
 -- By the walk's two tests at that block. Assumes nothing.
-use Rattle.std.specs.Prelude.{◌≡◌, Bool, List, get_or}
+use Rattle.std.specs.Prelude.{◌≡◌, Bool, List, get_or, ◌||◌}
 use Rattle.std.proofs.Math.Path.{refl}
 use Rattle.std.proofs.Common.{sym, ap, ◌∙◌}
 use Rattle.std.proofs.Math.Bool.{true, false}
@@ -31,27 +31,28 @@ module _ (l : Layout) (m : ℕ → ℕ) (marks : List Bool) (shared : Bool) (blo
     said_early zero n e = absurd (n refl)
     said_early (suc k) n e = rw (link, eq-eqb (m block) l.mark (sym read ∙ e)) refl
 
-    module _ {now : Bool} (joined : now ≡ pick shared true (get_or marks block false)) where
-      one_more : (s t rest : Bool) → pick s true (pick t true rest) ≡ pick (pick s true t) true rest
-      one_more true t rest = refl
-      one_more false t rest = refl
+    one_more : (s t rest : Bool) → pick s true (pick t true rest) ≡ pick (s || t) true rest
+    one_more true t rest = refl
+    one_more false t rest = refl
 
-      pub said_last : (left : ℕ) → left ≡ 0 → value ≡ l.mark → chain_said l m marks shared left block ≡ pick now 8 1
-      unfolding chain_said
-      said_last left z e =
-          rw (z, link, eq-eqb (m block) l.mark (sym read ∙ e), joined) (ap (λ (t : Bool). pick t 8 1) (one_more shared (get_or marks block false) false ∙ last (pick shared true (get_or marks block false))))
-        where
-          last : (t : Bool) → pick t true false ≡ t
-          last true = refl
-          last false = refl
+    -- the end mark in the last block
+    pub said_last : (left : ℕ) → left ≡ 0 → value ≡ l.mark → chain_said l m marks shared left block ≡ pick (shared || get_or marks block false) 8 1
+    unfolding chain_said
+    said_last left z e =
+        rw (z, link, eq-eqb (m block) l.mark (sym read ∙ e)) (ap (λ (t : Bool). pick t 8 1) (one_more shared (get_or marks block false) false ∙ last (shared || get_or marks block false)))
+      where
+        last : (t : Bool) → pick t true false ≡ t
+        last true = refl
+        last false = refl
 
-      pub said_on : (left : ℕ) → (left ≡ 0 → ⊥) → (value ≡ l.mark → ⊥) → chain_said l m marks shared left block ≡ chain_said l m marks now (left - 1) value
-      unfolding chain_said
-      said_on zero n k = absurd (n refl)
-      said_on (suc r) n k =
-          let z : suc r - 1 ≡ r = omega arith in
-          rw (z, link, ne_eqb (m block) l.mark (λ e. k (read ∙ e)), joined, read)
-          (ap (λ (t : Bool). pick (is_whole (walk l m r (m block))) (pick t 8 1) (fault_of (walk l m r (m block)))) (one_more shared (get_or marks block false) (touched marks (chain m r (m block)))))
+    -- another block before it
+    pub said_on : (left : ℕ) → (left ≡ 0 → ⊥) → (value ≡ l.mark → ⊥) → chain_said l m marks shared left block ≡ chain_said l m marks (shared || get_or marks block false) (left - 1) value
+    unfolding chain_said
+    said_on zero n k = absurd (n refl)
+    said_on (suc r) n k =
+        let z : suc r - 1 ≡ r = omega arith in
+        rw (z, link, ne_eqb (m block) l.mark (λ e. k (read ∙ e)), read)
+        (ap (λ (t : Bool). pick (is_whole (walk l m r (m block))) (pick t 8 1) (fault_of (walk l m r (m block)))) (one_more shared (get_or marks block false) (touched marks (chain m r (m block)))))
 
 -- a chain of which 1 is said is faultless
 pub said_one : (l : Layout) (m : ℕ → ℕ) (marks : List Bool) (shared : Bool) (links block : ℕ) → chain_said l m marks shared links block ≡ 1 → walk l m links block ≡ Whole
