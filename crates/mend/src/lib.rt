@@ -69,7 +69,7 @@ fn note(list: &mut [u16; 1600], k: usize, block: usize)
 }
 
 // What is said of a chain: 6 or 7 for its first fault, else 8 if it has a marked block, else 1. One walk tells all of it, and lists the blocks of
-// one that is kept. The loop follows the links to the end mark, and asks at each block whether it is the last: over a range it asks no less.
+// one that is kept. No `for`: over 0..=links it would ask the same at each block, and need an answer behind its end.
 fn chain_said(
     image: &[u8],
     layout: layout::Layout,

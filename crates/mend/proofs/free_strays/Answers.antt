@@ -1,15 +1,8 @@
 -- `mend::free_strays` meets its contract: setting what remains of the lost blocks makes what setting all of them makes, and those set and those to come are all.
 -- The blocks ahead still hold what they held. Assumes nothing.
 use Rattle.std.proofs.Common.{◌∙◌, arith}
-use Rattle.mend.specs.Lemmas.Setting.{setting_start, lost_turn, setting_image, setting_count, setting_few}
+use Rattle.mend.specs.Lemmas.Setting.{lost_turn, setting_image, setting_count, setting_few}
 use Rattle.mend.proofs.free_strays.Goals as goal
-
-pub loop-block-init : goal.loop-block-init
-loop-block-init c = setting_start _ _ _ _ _
-
-pub free_value-changed-requires : goal.free_value-changed-requires
-free_value-changed-requires c =
-    (omega (arith, c.requires.0.map-low, c.requires.0.data_some, c.loop-block.invariant.size), omega (arith, c.requires.0.blocks_most))
 
 pub overflow_add-changed : goal.overflow_add-changed
 overflow_add-changed c =

@@ -1,13 +1,11 @@
 -- `mend::judge` meets its contract: once the slots below the one in hand were judged, the report says so of them and the marks are those of the kept chains.
 -- Each turn judges one slot more; the slots past the used ones are empty, and noted so. Assumes nothing.
-use Rattle.std.proofs.Common.{◌≡◌, ◌∙◌, List, ℕ, ◌+◌, ◌-◌, ◌≤◌, arith}
-use Rattle.layout.specs.declared.Layout.{Layout}
-use Rattle.mend.specs.Steps.{used_end}
+use Rattle.std.proofs.Common.{◌≡◌, ◌∙◌, ℕ, ◌+◌, ◌-◌, arith}
 use Rattle.std.proofs.lemmas.List.{length-replicate}
 use Rattle.image.specs.Image.{view_of}
 use Rattle.laws.specs.Reader.{bytes}
 use Rattle.map.specs.Lemmas.Marks.{marks_none}
-use Rattle.mend.specs.Lemmas.Verdicts.{reported_none, reported_turn, reported_on, reported_over, reported_all, noted_twice, end_low, above_noted, above_marks}
+use Rattle.mend.specs.Lemmas.Verdicts.{reported_none, reported_turn, few, reported_on, reported_over, reported_all, noted_twice, above_noted, above_marks}
 use Rattle.salvage.specs.Salvage.{report_after}
 use Rattle.view.specs.Disk.{owned}
 use Rattle.mend.proofs.judge.Goals as goal
@@ -19,12 +17,6 @@ few l image e = end_low l (view_of l (bytes image)) l.slots e
 pub loop-slot-init : goal.loop-slot-init
 unfolding owned
 loop-slot-init c = (reported_none _ _, length-replicate {A = ℕ} 1600 0, rw c.requires.3 (marks_none 1600))
-
-pub used_end-end-requires : goal.used_end-end-requires
-used_end-end-requires c = let p = c.requires in omega (arith, p.1, p.0.directory_low)
-
-pub note_names-requires : goal.note_names-requires
-note_names-requires c = let p = c.requires in (p.0, p.1, p.2, c.used_end-end.ensures)
 
 pub bounds-report-slot : goal.bounds-report-slot
 bounds-report-slot c =

@@ -1,41 +1,34 @@
 -- `mend::note_names` meets its contract: the slots below the one in hand are noted, and the table has them; those past the used ones have zeros.
 -- Each turn notes one slot more. Assumes nothing.
-use Rattle.std.proofs.Common.{◌≡◌, refl, ap, ◌∙◌, Bool, List, ℕ, ◌≤◌, arith}
-use Rattle.image.specs.Image.{view_of}
+use Rattle.std.proofs.Common.{◌≡◌, refl, ap, ◌∙◌, Bool, arith}
 use Rattle.laws.specs.Reader.{bytes}
 use Rattle.laws.specs.Truth.{pick}
-use Rattle.layout.specs.declared.Layout.{Layout}
-use Rattle.mend.specs.Lemmas.Verdicts.{reported_none, reported_turn, end_low, noted_above}
+use Rattle.mend.specs.Lemmas.Verdicts.{reported_none, reported_turn, few, noted_above}
 use Rattle.mend.specs.Lemmas.Setting.{told}
-use Rattle.mend.specs.Steps.{used_end}
 use Rattle.mend.proofs.note_names.Goals as goal
 
--- the used slots' end is no farther than the slots'
-few : (l : Layout) (image : List ℕ) (end : ℕ) → end ≡ used_end (view_of l (bytes image)) l.slots → end ≤ l.slots
-few l image end e = end_low l (view_of l (bytes image)) l.slots e
-
 pub overflow_sub-rest : goal.overflow_sub-rest
-overflow_sub-rest c = omega (arith, few c.args.layout c.args.image.now c.args.end c.requires.3)
+overflow_sub-rest c = omega (arith, few c.args.layout c.args.image.now c.requires.3)
 
 pub loop-slot-init : goal.loop-slot-init
 loop-slot-init c = let none = c.new-table.ensures c.args.layout (bytes c.args.image.now) in (reported_none _ _, none.0, none.1)
 
 pub repeats-twice-requires : goal.repeats-twice-requires
 repeats-twice-requires c =
-    let low = few c.args.layout c.args.image.now c.args.end c.requires.3 in
+    let low = few c.args.layout c.args.image.now c.requires.3 in
     let k = c.loop-slot.invariant in
     (omega (arith, c.requires.1, c.requires.0.directory_low, low), omega (arith, c.requires.0.slots_few, low), k.1, k.2)
 
 pub bounds-report-slot : goal.bounds-report-slot
-bounds-report-slot c = omega (arith, few c.args.layout c.args.image.now c.args.end c.requires.3, c.requires.2, c.loop-slot.invariant.0.size)
+bounds-report-slot c = omega (arith, few c.args.layout c.args.image.now c.requires.3, c.requires.2, c.loop-slot.invariant.0.size)
 
 pub loop-slot-preserved : goal.loop-slot-preserved
 loop-slot-preserved c =
     let turn = c.repeats-twice.ensures in
-    (reported_turn _ _ _ _ _ (omega (arith, c.requires.2, few c.args.layout c.args.image.now c.args.end c.requires.3)) (c.from.ensures ∙ told _ ∙ ap (λ (x : Bool). pick x 1 0) turn.answer) c.loop-slot.invariant.0, turn.tops_on, turn.lowers_on)
+    (reported_turn _ _ _ _ _ (omega (arith, c.requires.2, few c.args.layout c.args.image.now c.requires.3)) (c.from.ensures ∙ told _ ∙ ap (λ (x : Bool). pick x 1 0) turn.answer) c.loop-slot.invariant.0, turn.tops_on, turn.lowers_on)
 
 pub clear-requires : goal.clear-requires
-clear-requires c = omega (arith, few c.args.layout c.args.image.now c.args.end c.requires.3, c.requires.2, c.loop-slot.invariant.0.size)
+clear-requires c = omega (arith, few c.args.layout c.args.image.now c.requires.3, c.requires.2, c.loop-slot.invariant.0.size)
 
 pub returns : goal.returns
 returns c =

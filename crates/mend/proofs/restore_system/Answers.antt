@@ -1,17 +1,10 @@
 -- `mend::restore_system` meets its contract: setting what remains of the wrong system blocks makes what setting all of them makes, and those set and those to
 -- come are all. The blocks ahead still hold what they held. Assumes nothing.
 use Rattle.std.proofs.Common.{◌≡◌, ◌-◌, arith}
-use Rattle.mend.specs.Lemmas.Setting.{setting_start, wrong_turn, setting_image, setting_count, setting_few}
+use Rattle.mend.specs.Lemmas.Setting.{wrong_turn, setting_image, setting_count, setting_few}
 use Rattle.salvage.specs.Salvage.{wrong_system}
 use Rattle.view.specs.Rules.{bad_system}
 use Rattle.mend.proofs.restore_system.Goals as goal
-
-pub loop-block-init : goal.loop-block-init
-loop-block-init c = setting_start _ _ _ _ _
-
-pub set_value-changed-requires : goal.set_value-changed-requires
-set_value-changed-requires c =
-    omega (arith, c.requires.0.map-low, c.requires.0.system_low, c.requires.0.data_some, c.loop-block.invariant.size)
 
 pub overflow_add-changed : goal.overflow_add-changed
 overflow_add-changed c =

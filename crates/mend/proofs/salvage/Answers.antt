@@ -1,16 +1,14 @@
 -- `mend::salvage` meets its contract: its passes in turn make the salvaged image, the report and the count.
 -- What each pass promises, put together. Assumes nothing.
 use Rattle.std.proofs.Common.{arith}
-use Rattle.image.specs.Image.{view_of}
-use Rattle.laws.specs.Reader.{bytes}
 use Rattle.mend.specs.Lemmas.Passes.{counts_few, passes}
-use Rattle.mend.specs.Lemmas.Verdicts.{end_low}
+use Rattle.mend.specs.Lemmas.Verdicts.{few}
 use Rattle.mend.proofs.salvage.Goals as goal
 
 pub erase_dropped-requires : goal.erase_dropped-requires
 erase_dropped-requires c =
     let a = c.args in
-    let low = end_low a.layout (view_of a.layout (bytes a.image.now)) a.layout.slots c.judge-end.ensures.value in
+    let low = few a.layout a.image.now c.judge-end.ensures.value in
     (omega (arith, low, c.requires.0.directory_low, c.requires.0.data_some, c.requires.1), omega (arith, low, c.requires.2))
 
 pub overflow_add-result : goal.overflow_add-result

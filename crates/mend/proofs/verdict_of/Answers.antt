@@ -1,6 +1,6 @@
 -- `mend::verdict_of` meets its contract: what it says is the run's verdict of the slot, and a kept slot's blocks are listed.
 -- Each test's answer is the run's on the disk without the lower slots that were dropped. Assumes nothing.
-use Rattle.std.proofs.Common.{sym, ◌∙◌, arith, rules}
+use Rattle.std.proofs.Common.{sym, ◌∙◌, arith}
 use Rattle.image.specs.Image.{view_of}
 use Rattle.laws.specs.Reader.{bytes}
 use Rattle.mend.specs.Lemmas.Noting.{noted_not}
@@ -16,21 +16,12 @@ returns-then-is_malformed c =
     let is_used_is = sym c.is_used.ensures ∙ c.if-not-is_used.false in
     record { value = sym (verdict-malformed _ _ _ is_used_is (sym c.is_malformed.ensures ∙ c.if-is_malformed.true)); noted = noted_not c.requires.4 (λ e. omega arith) }
 
-pub name_stands-requires : goal.name_stands-requires
-name_stands-requires c =
-    let is_used_is = sym c.is_used.ensures ∙ c.if-not-is_used.false in
-    (search rules, omega (arith, c.requires.2, c.requires.3), is_used_is, c.requires.5)
-
 pub returns-then-name_stands : goal.returns-then-name_stands
 returns-then-name_stands c =
     let is_used_is = sym c.is_used.ensures ∙ c.if-not-is_used.false in
     let is_formed = sym c.is_malformed.ensures ∙ c.if-is_malformed.false in
     let p = c.requires in
     record { value = sym (verdict-repeated _ _ _ is_used_is _ _ p.6 is_formed c.name_stands.ensures c.if-name_stands.true); noted = noted_not p.4 (λ e. omega arith) }
-
-pub chain_said-requires : goal.chain_said-requires
-chain_said-requires c =
-    let p = c.requires in (p.0, omega (arith, p.0.map-low), p.4)
 
 pub returns : goal.returns
 returns c =

@@ -16,7 +16,8 @@ use Rattle.laws.specs.Scan.{any}
 use Rattle.laws.specs.Lemmas.Scan.{any_cong, none→, →none}
 use Rattle.laws.specs.Lists.{meets}
 use Rattle.laws.specs.Member.{In}
-use Rattle.laws.specs.Reader.{tab}
+use Rattle.laws.specs.Reader.{bytes, tab}
+use Rattle.image.specs.Image.{view_of}
 use Rattle.laws.specs.Splice.{splice}
 use Rattle.laws.specs.Lemmas.Splice.{length-splice, get_or-splice_below, get_or-splice_past, get_or-splice_in}
 use Rattle.laws.specs.Lemmas.Padded.{get_or_zeros}
@@ -214,6 +215,10 @@ module _ (l : Layout) (v : View) (n : ℕ) {end : ℕ} (last : end ≡ used_end 
   above_marks ms (suc k) h m =
       let z : end + suc k ≡ end + k + 1 = omega arith in
       rw z (gone_marks l v (end + k) (λ e. omega (arith, above_said (end + k) (omega arith) (omega arith), e)) ms (above_marks ms k (omega arith) m))
+
+-- the used slots' end is no farther than the slots'
+pub few : (l : Layout) (image : List ℕ) {end : ℕ} → end ≡ used_end (view_of l (bytes image)) l.slots → end ≤ l.slots
+few l image e = end_low l (view_of l (bytes image)) l.slots e
 
 -- zeros are their notes
 pub noted_above : (l : Layout) (v : View) (lent report : List ℕ) {end rest : ℕ} → end ≡ used_end v l.slots → rest ≡ l.slots - end → l.slots ≤ length lent
