@@ -10,10 +10,6 @@ use Rattle.salvage.specs.Salvage.{report_after}
 use Rattle.view.specs.Disk.{owned}
 use Rattle.mend.proofs.judge.Goals as goal
 
--- the used slots' end is no farther than the slots'
-few : (l : Layout) (image : List ℕ) {end : ℕ} → end ≡ used_end (view_of l (bytes image)) l.slots → end ≤ l.slots
-few l image e = end_low l (view_of l (bytes image)) l.slots e
-
 pub loop-slot-init : goal.loop-slot-init
 unfolding owned
 loop-slot-init c = (reported_none _ _, length-replicate {A = ℕ} 1600 0, rw c.requires.3 (marks_none 1600))
