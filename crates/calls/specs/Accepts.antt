@@ -7,11 +7,10 @@ use Rattle.layout.specs.declared.Density.{Density}
 use Rattle.layout.specs.declared.Layout.{Layout}
 use Rattle.layout.specs.Layouts.{layout_of, slot_offset}
 use Rattle.layout.specs.Right.{LayoutRight}
-use Rattle.layout.proofs.Right.{layout_right}
 use Rattle.image.specs.Image.{DiskRules}
 use Rattle.rules.specs.declared.Accepted.{Accepted}
 use Rattle.rules.specs.Check.{check_of, Checked, accepting}
-use Rattle.rules.proofs.Accepts.{accepted-rules}
+use Rattle.calls.specs.Lemmas.Done.{done_needs}
 use Rattle.calls.specs.Lemmas.Slots.{slot_held, directory_held}
 
 -- The check accepts the image, and the layout is that of the kind and density that it tells.
@@ -24,7 +23,7 @@ accepted_by img checked said made = rw (sym checked ∙ said) made
 
 module _ (l : Layout) (img : List ℕ) where
   needs_by : (c : Checked) → check_of img ≡ c → IsOkAnd c (λ (a : Accepted). l ≡ layout_of a.kind a.density) → LayoutRight l × DiskRules l img
-  needs_by (Ok a) e h = rw h (layout_right a.kind a.density, accepted-rules a.kind a.density a.files a.free img e)
+  needs_by (Ok a) e h = done_needs img refl e h
   needs_by (Err r) e h = absurd h
 
   module _ (accepted : AcceptedAs l img) where

@@ -1,4 +1,4 @@
-// An image that the check accepted, and what the calls read of it.
+// What the calls judge and read of an image that the check accepted.
 ghost use Rattle.std.specs.Prelude.{◌≡◌, ◌≤◌, List, ℕ, length, true};
 ghost use Rattle.laws.specs.Reader.{bytes};
 ghost use Rattle.map.specs.Map.{map_at, free_count};
@@ -16,7 +16,7 @@ ghost use Rattle.std.proofs.Props.{props};
 use crate::{Entry, Metered, Piece, is_legal, judge_room, unpaged};
 use laws::Refusal;
 
-// The image with the layout of its kind and density.
+// An image that the check accepted, with its layout.
 #[derive(Clone, Copy)]
 pub struct Disk<'a> {
     pub image: &'a [u8],

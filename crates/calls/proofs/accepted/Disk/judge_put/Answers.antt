@@ -34,7 +34,9 @@ returns-in_err-slot c =
 
 pub returns : goal.returns
 returns c =
+    let right = right_of _ _ c.args.self.now.accepted in
+    let rules = rules_of _ _ c.args.self.now.accepted in
     λ content long.
     let legal = sym c.is_legal.ensures ∙ c.if-not-is_legal.false in
-    let found = put_some _ (right_of _ _ c.args.self.now.accepted) _ (rules_of _ _ c.args.self.now.accepted) _ _ content long legal c.if-size-eq0.false c.slot_named.ensures c.in_default.is c.empty_slot.ensures c.ok_or.ensures.value c.in_ok-slot.was in
-    put_room _ (right_of _ _ c.args.self.now.accepted) _ (rules_of _ _ c.args.self.now.accepted) _ _ content long legal c.if-size-eq0.false c.slot_named.ensures c.in_default.is c.empty_slot.ensures found c.requires c.judge_room.ensures
+    let found = put_some _ right _ rules _ _ content long legal c.if-size-eq0.false c.slot_named.ensures c.in_default.is c.empty_slot.ensures c.ok_or.ensures.value c.in_ok-slot.was in
+    put_room _ right _ rules _ _ content long legal c.if-size-eq0.false c.slot_named.ensures c.in_default.is c.empty_slot.ensures found c.requires c.judge_room.ensures

@@ -23,8 +23,10 @@ returns-then-not-is_used c =
 
 pub returns : goal.returns
 returns c =
+    let right = right_of _ _ c.args.self.now.accepted in
+    let rules = rules_of _ _ c.args.self.now.accepted in
     let l = c.args.self.now.layout in
     let img = c.args.self.now.image.now in
     let here = sym c.is_used.ensures ∙ c.if-not-is_used.false in
-    let name = c.name_of-name.ensures ∙ ap (λ (a : List ℕ). padded (name_of l a) 12) (area-lent l (right_of _ _ c.args.self.now.accepted) img (rules_of _ _ c.args.self.now.accepted) c.args.slot (omega arith) here) in
-    lists_file l (right_of _ _ c.args.self.now.accepted) img (rules_of _ _ c.args.self.now.accepted) c.args.slot (omega arith) here c.type_of-letter.ensures c.size_of-length.ensures name
+    let name = c.name_of-name.ensures ∙ ap (λ (a : List ℕ). padded (name_of l a) 12) (area-lent l right img rules c.args.slot (omega arith) here) in
+    lists_file l right img rules c.args.slot (omega arith) here c.type_of-letter.ensures c.size_of-length.ensures name

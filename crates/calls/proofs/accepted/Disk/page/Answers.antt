@@ -38,25 +38,29 @@ overflow_sub-links c =
 
 pub page_runs-cost-requires : goal.page_runs-cost-requires
 page_runs-cost-requires c =
+    let right = right_of _ _ c.args.self.now.accepted in
+    let rules = rules_of _ _ c.args.self.now.accepted in
     let here : (used ((view_of c.args.self.now.layout (bytes c.args.self.now.image.now)).entry c.args.slot) ≡ true) = sym c.is_used.ensures ∙ c.if-not-is_used.false in
     let a = c.args in
-    let some = size_some a.self.now.layout (right_of _ _ c.args.self.now.accepted) a.self.now.image.now (rules_of _ _ c.args.self.now.accepted) a.slot (omega arith) here c.size_of-size.ensures in record {
-      layout_right = ((right_of _ _ c.args.self.now.accepted), (rules_of _ _ c.args.self.now.accepted).size, slot_chained a.self.now.layout (right_of _ _ c.args.self.now.accepted) a.self.now.image.now (rules_of _ _ c.args.self.now.accepted) a.slot (omega arith) here c.size_of-size.ensures c.start_of-start.ensures);
+    let some = size_some a.self.now.layout right a.self.now.image.now rules a.slot (omega arith) here c.size_of-size.ensures in record {
+      layout_right = (right, rules.size, slot_chained a.self.now.layout right a.self.now.image.now rules a.slot (omega arith) here c.size_of-size.ensures c.start_of-start.ensures);
       count_bound = (omega arith, omega arith);
     }
 
 pub returns : goal.returns
 returns c =
+    let right = right_of _ _ c.args.self.now.accepted in
+    let rules = rules_of _ _ c.args.self.now.accepted in
     let here : (used ((view_of c.args.self.now.layout (bytes c.args.self.now.image.now)).entry c.args.slot) ≡ true) = sym c.is_used.ensures ∙ c.if-not-is_used.false in
     let a = c.args in
     let l = a.self.now.layout in
     let img = a.self.now.image.now in
     let u = here in
-    let n = content-size l (right_of _ _ c.args.self.now.accepted) img (rules_of _ _ c.args.self.now.accepted) a.slot (omega arith) u c.size_of-size.ensures in
-    let some = size_some l (right_of _ _ c.args.self.now.accepted) img (rules_of _ _ c.args.self.now.accepted) a.slot (omega arith) u c.size_of-size.ensures in
+    let n = content-size l right img rules a.slot (omega arith) u c.size_of-size.ensures in
+    let some = size_some l right img rules a.slot (omega arith) u c.size_of-size.ensures in
     let both = meters_file img _ a.offset _ (slot_file l img a.slot) c.size_of-size.result c.min-count.result
     (file-used l img a.slot (omega arith) u) n some (omega arith) c.min-count.ensures refl
     (c.page_runs-cost.ensures.out_after
     ∙ ap (splice _ 0)
-    (page-bytes l (right_of _ _ c.args.self.now.accepted) img (rules_of _ _ c.args.self.now.accepted) a.slot (omega arith) u c.size_of-size.ensures c.start_of-start.ensures a.offset c.min-count.result (omega arith)))
+    (page-bytes l right img rules a.slot (omega arith) u c.size_of-size.ensures c.start_of-start.ensures a.offset c.min-count.result (omega arith)))
     c.page_runs-cost.ensures.value in record { image_after = both.0; cost_value = both.1 }
