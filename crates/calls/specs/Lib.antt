@@ -1,4 +1,5 @@
 pub mod Answers
+pub mod Accepts
 pub mod Metered
 pub mod Made
 pub mod Costs

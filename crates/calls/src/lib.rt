@@ -2,18 +2,18 @@
 #![tactic(auto)]
 
 ghost use Rattle.std.specs.Prelude.{◌≡◌, List, [], ℕ, ◌≤◌, length, true};
-ghost use Rattle.laws.specs.Reader.{bytes};
-ghost use Rattle.map.specs.Map.{map_at, free_count};
 ghost use Rattle.record.specs.Order.{room_for};
 ghost use Rattle.layout.specs.Layouts.{image_length};
 ghost use Rattle.layout.specs.Right.{LayoutRight};
-ghost use Rattle.image.specs.Image.{files_in, DiskRules};
-ghost use Rattle.record.specs.Record.{is_legal, slot_of, file_at, judge_name, judge_put, listing, paging};
+ghost use Rattle.record.specs.Record.{is_legal};
 ghost use Rattle.laws.specs.Refusals.{refusal_at};
 ghost use Rattle.rules.specs.Check.{came, salvage_as, call_of};
 ghost use Rattle.calls.specs.Answers.{found_of, paged_of, Lists, unpaged_by, list_call, find_call, page_call, put_call, remove_call, salvage_call, removed_of};
-ghost use Rattle.calls.specs.Metered.{page_cost, cost_in};
+ghost use Rattle.calls.specs.Metered.{cost_in};
 
+mod accepted;
+
+pub use accepted::Disk;
 use laws::Refusal;
 use rules::{Accepted, Format};
 
@@ -40,64 +40,11 @@ pub struct Entry {
     pub name: [u8; 12],
 }
 
-// Lists a slot of an accepted image: 10 if it is empty or not there.
-fn list_slot(image: &[u8], layout: layout::Layout, slot: usize) -> Result<Entry, Refusal>
-    requires { LayoutRight layout × DiskRules layout image.now }
-    ensures { Lists image.now (listing image.now (file_at layout (files_in layout image.now) slot)) result }
-{
-    let slots = layout.slots;
-    let directory = layout.directory;
-    let letters = layout.letters;
-    if slot >= slots {
-        return Err(Refusal::NoFile);
-    }
-    if !slots::is_used(image, layout, slot) {
-        return Err(Refusal::NoFile);
-    }
-    let letter = slots::type_of(image, layout, slot);
-    let length = slots::size_of(image, layout, slot);
-    let at = directory + 24 * slot;
-    let end = at + 16;
-    let name = names::name_of(layout, &image[at..end]);
-    Ok(Entry {
-        letters,
-        letter,
-        length,
-        name,
-    })
-}
-
 // Whether a file may have the name and the type (refusal 11).
 fn is_legal(layout: layout::Layout, name: &[u8], letter: u8) -> bool
     ensures { result ≡ is_legal layout name.now letter }
 {
     names::is_name(layout, name) && names::is_type(layout, letter)
-}
-
-// The slot of a file of an accepted image by its legal name and type.
-fn slot_named(image: &[u8], layout: layout::Layout, name: &[u8], letter: u8) -> Option<usize>
-    requires { LayoutRight layout × DiskRules layout image.now × (is_legal layout name.now letter ≡ true) }
-    ensures { result ≡ slot_of layout (files_in layout image.now) name.now letter }
-{
-    let area = names::area_of(layout, name);
-    let keys = slots::Keys::of(&area, 0, letter);
-    slots::find_keys(image, layout, keys)
-}
-
-// How find and remove are judged on an accepted image: 11, 10.
-fn judge_name(
-    image: &[u8],
-    layout: layout::Layout,
-    name: &[u8],
-    letter: u8,
-) -> Result<usize, Refusal>
-    requires { LayoutRight layout × DiskRules layout image.now }
-    ensures { result ≡ judge_name layout (files_in layout image.now) name.now letter }
-{
-    if !is_legal(layout, name, letter) {
-        return Err(Refusal::IllegalName);
-    }
-    slot_named(image, layout, name, letter).ok_or(Refusal::NoFile)
 }
 
 // Put's last refusals, for a content of some length: 15, 16.
@@ -115,31 +62,6 @@ fn judge_room(free: usize, size: usize, slot: usize) -> Result<usize, Refusal>
     Ok(slot)
 }
 
-// How put is judged on an accepted image with so many free blocks: 11, 13, 12, 14, 15, 16.
-fn judge_put(
-    image: &[u8],
-    layout: layout::Layout,
-    free: usize,
-    name: &[u8],
-    letter: u8,
-    size: usize,
-) -> Result<usize, Refusal>
-    requires { LayoutRight layout × DiskRules layout image.now × (free ≡ free_count layout (map_at (bytes image.now))) }
-    ensures { (content : List ℕ) → length content ≡ size → result ≡ judge_put layout (files_in layout image.now) name.now letter content }
-{
-    if !is_legal(layout, name, letter) {
-        return Err(Refusal::IllegalName);
-    }
-    if size == 0 {
-        return Err(Refusal::EmptyContent);
-    }
-    if let Some(slot) = slot_named(image, layout, name, letter) {
-        return Err(Refusal::NameTaken(slot));
-    }
-    let slot = slots::empty_slot(image, layout).ok_or(Refusal::DirectoryFull)?;
-    judge_room(free, size, slot)
-}
-
 // A page that was refused, for which nothing was followed or copied.
 fn unpaged(refusal: Refusal) -> Metered
     ensures { result ≡ unpaged_by refusal }
@@ -150,47 +72,13 @@ fn unpaged(refusal: Refusal) -> Metered
     }
 }
 
-// A page of a slot's file of an accepted image, with what it cost: 10, 17.
-fn page_slot(
-    image: &[u8],
-    layout: layout::Layout,
-    slot: usize,
-    offset: usize,
-    out: &mut [u8],
-) -> Metered
-    requires { LayoutRight layout × DiskRules layout image.now }
-    ensures image_after { came (paged_of result.paged) out.new image.now ≡ paging image.now (file_at layout (files_in layout image.now) slot) offset out.old }
-    ensures cost_value { result.cost ≡ page_cost (file_at layout (files_in layout image.now) slot) offset (length out.old) }
-{
-    let slots = layout.slots;
-    if slots <= slot {
-        return unpaged(Refusal::NoFile);
-    }
-    if !slots::is_used(image, layout, slot) {
-        return unpaged(Refusal::NoFile);
-    }
-    let size = slots::size_of(image, layout, slot);
-    if offset > size {
-        return unpaged(Refusal::OffsetPastEnd);
-    }
-    let start = slots::start_of(image, layout, slot);
-    let count = out.len().min(size - offset);
-    let links = (size - 1) / 1024;
-    let cost = pages::page_runs(image, layout, links, start, offset, out, count);
-    let end = offset + count == size;
-    Metered {
-        paged: Ok(Piece { count, end }),
-        cost,
-    }
-}
-
 // What a slot holds.
 pub fn list(image: &[u8], slot: usize) -> Result<Entry, Refusal>
     ensures { Lists image.now (call_of image.now (list_call slot)) result }
 {
     let Accepted { kind, density, .. } = disk::check(image)?;
     let layout = layout::layout_of(kind, density);
-    list_slot(image, layout, slot)
+    Disk { image, layout }.list(slot)
 }
 
 // The slot of the file with a name and a type.
@@ -199,7 +87,7 @@ pub fn find(image: &[u8], name: &[u8], letter: u8) -> Result<usize, Refusal>
 {
     let Accepted { kind, density, .. } = disk::check(image)?;
     let layout = layout::layout_of(kind, density);
-    judge_name(image, layout, name, letter)
+    Disk { image, layout }.judge_name(name, letter)
 }
 
 // Bytes of a slot's file from an offset on, to the front of the output.
@@ -208,7 +96,7 @@ pub fn page(image: &[u8], slot: usize, offset: usize, out: &mut [u8]) -> Result<
 {
     let Accepted { kind, density, .. } = disk::check(image)?;
     let layout = layout::layout_of(kind, density);
-    page_slot(image, layout, slot, offset, out).paged
+    Disk { image, layout }.page(slot, offset, out).paged
 }
 
 // The same page, with what it cost.
@@ -219,7 +107,7 @@ pub fn metered_page(image: &[u8], slot: usize, offset: usize, out: &mut [u8]) ->
     match disk::check(image) {
         Ok(Accepted { kind, density, .. }) => {
             let layout = layout::layout_of(kind, density);
-            page_slot(image, layout, slot, offset, out)
+            Disk { image, layout }.page(slot, offset, out)
         }
         Err(refusal) => unpaged(refusal),
     }
@@ -236,7 +124,7 @@ pub fn put(image: &mut [u8], name: &[u8], letter: u8, content: &[u8]) -> Result<
         ..
     } = disk::check(image)?;
     let layout = layout::layout_of(kind, density);
-    let slot = judge_put(image, layout, free, name, letter, content.len())?;
+    let slot = Disk { image, layout }.judge_put(free, name, letter, content.len())?;
     let area = names::area_of(layout, name);
     changes::put_slot(image, layout, slot, area, letter, content);
     Ok(slot)
@@ -248,7 +136,7 @@ pub fn remove(image: &mut [u8], name: &[u8], letter: u8) -> Result<(), Refusal>
 {
     let Accepted { kind, density, .. } = disk::check(image)?;
     let layout = layout::layout_of(kind, density);
-    let slot = judge_name(image, layout, name, letter)?;
+    let slot = Disk { image, layout }.judge_name(name, letter)?;
     changes::remove_slot(image, layout, slot);
     Ok(())
 }

@@ -5,8 +5,6 @@
 ghost use Rattle.std.specs.Prelude.{◌≡◌, ◌≤◌, length};
 ghost use Rattle.laws.specs.Refusals.{filled};
 ghost use Rattle.laws.specs.Splice.{splice};
-ghost use Rattle.layout.specs.Right.{LayoutRight};
-ghost use Rattle.image.specs.Image.{DiskRules};
 ghost use Rattle.locate.specs.Locate.{file_blocks, storing, blocks_of};
 
 use laws::Refusal;
@@ -21,15 +19,11 @@ fn copy_blocks(list: &[u16], out: &mut [u16])
 }
 
 // The blocks of a slot's file of an accepted image: 10, 21.
-fn slot_blocks(
-    image: &[u8],
-    layout: layout::Layout,
-    slot: usize,
-    out: &mut [u16],
-) -> Result<usize, Refusal>
-    requires { LayoutRight layout × DiskRules layout image.now }
-    ensures { filled result out.new ≡ storing (file_blocks layout image.now slot) out.old }
+#[tactic(auto, using(calls::specs::Accepts::slot_inside))]
+fn slot_blocks(disk: &calls::Disk, slot: usize, out: &mut [u16]) -> Result<usize, Refusal>
+    ensures { filled result out.new ≡ storing (file_blocks disk.now.layout disk.now.image.now slot) out.old }
 {
+    let calls::Disk { image, layout } = *disk;
     if slot >= layout.slots || !slots::is_used(image, layout, slot) {
         return Err(Refusal::NoFile);
     }
@@ -50,5 +44,5 @@ pub fn file_blocks(image: &[u8], slot: usize, out: &mut [u16]) -> Result<usize, 
 {
     let Accepted { kind, density, .. } = disk::check(image)?;
     let layout = layout::layout_of(kind, density);
-    slot_blocks(image, layout, slot, out)
+    slot_blocks(&calls::Disk { image, layout }, slot, out)
 }

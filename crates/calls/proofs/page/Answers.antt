@@ -2,9 +2,10 @@
 -- The check's answer is taken apart, and the layout is that of its kind and density. Assumes nothing.
 use Rattle.std.proofs.Common.{◌∙◌}
 use Rattle.std.proofs.lemmas.Result.{err_from_is_err_and}
+use Rattle.calls.specs.Accepts.{accepted_by}
 use Rattle.calls.specs.Answers.{page_call}
 use Rattle.calls.specs.Lemmas.Answers.{call_refused}
-use Rattle.calls.specs.Lemmas.Done.{done_needs, page-done}
+use Rattle.calls.specs.Lemmas.Done.{page-done}
 use Rattle.calls.proofs.page.Goals as goal
 
 pub returns-in_err-kind : goal.returns-in_err-kind
@@ -13,8 +14,8 @@ returns-in_err-kind c =
     let refused = err_from_is_err_and c.from_residual.result c.from_residual.ensures.1 in
     rw (refused.1, refused.2) (call_refused _ (page_call a.slot a.offset a.out.now) c.check.ensures c.in_err-kind.was)
 
-pub page_slot-requires : goal.page_slot-requires
-page_slot-requires c = done_needs _ c.check.ensures c.in_ok-kind.was c.layout_of-layout.ensures
+pub invariant_of-page : goal.invariant_of-page
+invariant_of-page c = record { accepted = accepted_by _ c.check.ensures c.in_ok-kind.was c.layout_of-layout.ensures }
 
 pub returns : goal.returns
-returns c = c.page_slot.ensures.image_after ∙ page-done _ c.check.ensures c.in_ok-kind.was c.layout_of-layout.ensures c.args.slot c.args.offset _
+returns c = c.page.ensures.image_after ∙ page-done _ c.check.ensures c.in_ok-kind.was c.layout_of-layout.ensures c.args.slot c.args.offset _

@@ -2,9 +2,10 @@
 -- The check's answer is taken apart, then the judgement. Assumes nothing.
 use Rattle.std.proofs.Common.{refl, ap, ◌∙◌, List, ℕ}
 use Rattle.std.proofs.lemmas.Result.{err_from_is_err_and}
+use Rattle.calls.specs.Accepts.{accepted_by}
 use Rattle.calls.specs.Answers.{put_call}
 use Rattle.calls.specs.Lemmas.Answers.{call_refused}
-use Rattle.calls.specs.Lemmas.Done.{done-right, done-rules, done-free, put_refused, put_legal, put_needs, put_granted}
+use Rattle.calls.specs.Lemmas.Done.{done-right, done-free, put_refused, put_legal, put_needs, put_granted}
 use Rattle.changes.specs.Changes.{put_area}
 use Rattle.changes.specs.Lemmas.Changes.{put_area_is}
 use Rattle.calls.proofs.put.Goals as goal
@@ -15,11 +16,11 @@ returns-in_err-kind c =
     let refused = err_from_is_err_and c.from_residual.result c.from_residual.ensures.1 in
     rw (refused.1, refused.2) (call_refused _ (put_call a.name.now a.letter a.content.now) c.check.ensures c.in_err-kind.was)
 
+pub invariant_of-judge_put : goal.invariant_of-judge_put
+invariant_of-judge_put c = record { accepted = accepted_by _ c.check.ensures c.in_ok-kind.was c.layout_of-layout.ensures }
+
 pub judge_put-requires : goal.judge_put-requires
-judge_put-requires c =
-    let yes = c.in_ok-kind.was in
-    let made = c.layout_of-layout.ensures in
-    (done-right _ c.check.ensures yes made, done-rules _ c.check.ensures yes made, done-free _ c.check.ensures yes made)
+judge_put-requires c = done-free _ c.check.ensures c.in_ok-kind.was c.layout_of-layout.ensures
 
 pub returns-in_err-slot : goal.returns-in_err-slot
 returns-in_err-slot c =

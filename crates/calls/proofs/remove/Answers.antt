@@ -1,9 +1,10 @@
 -- `calls::remove` meets its contract: a refused image answers the check's refusal, a refused remove the record's, and a granted one leaves remove's image.
 -- The check's answer is taken apart, then the judgement. Assumes nothing.
 use Rattle.std.proofs.lemmas.Result.{err_from_is_err_and}
+use Rattle.calls.specs.Accepts.{accepted_by}
 use Rattle.calls.specs.Answers.{remove_call}
 use Rattle.calls.specs.Lemmas.Answers.{call_refused}
-use Rattle.calls.specs.Lemmas.Done.{done_needs, remove_needs, remove_refused, remove_granted}
+use Rattle.calls.specs.Lemmas.Done.{remove_needs, remove_refused, remove_granted}
 use Rattle.calls.proofs.remove.Goals as goal
 
 pub returns-in_err-kind : goal.returns-in_err-kind
@@ -12,8 +13,8 @@ returns-in_err-kind c =
     let refused = err_from_is_err_and c.from_residual.result c.from_residual.ensures.1 in
     rw (refused.1, refused.2) (call_refused _ (remove_call a.name.now a.letter) c.check.ensures c.in_err-kind.was)
 
-pub judge_name-requires : goal.judge_name-requires
-judge_name-requires c = done_needs _ c.check.ensures c.in_ok-kind.was c.layout_of-layout.ensures
+pub invariant_of-judge_name : goal.invariant_of-judge_name
+invariant_of-judge_name c = record { accepted = accepted_by _ c.check.ensures c.in_ok-kind.was c.layout_of-layout.ensures }
 
 pub remove_slot-requires : goal.remove_slot-requires
 remove_slot-requires c = remove_needs _ c.check.ensures c.in_ok-kind.was c.layout_of-layout.ensures _ _ c.judge_name.ensures c.in_ok-slot.was
