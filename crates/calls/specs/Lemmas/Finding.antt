@@ -15,7 +15,7 @@ use Rattle.laws.specs.Lemmas.Reader.{tab_is}
 use Rattle.layout.specs.declared.Layout.{Layout}
 use Rattle.layout.specs.Right.{LayoutRight}
 use Rattle.names.specs.Names.{legal_name, legal_type, area_of, name_of, capitals}
-use Rattle.names.specs.NameLaws.{area_back}
+use Rattle.names.specs.NameLaws.{length-area, area_back}
 use Rattle.names.proofs.NameLaws.{name_back, capitals-area}
 use Rattle.view.specs.Disk.{used, has_name, files_of, Used}
 use Rattle.view.specs.Lemmas.Formed.{formed-parts, type_some}
@@ -72,13 +72,19 @@ found_area l img area type {k} small long keyed found =
     ∙ keys_area l (bytes area) (bytes img) 0 s type keyed.small small keyed.low keyed.high
     ∙ ap (λ (a : List ℕ). has_name a type ((view_of l (bytes img)).entry s)) whole)
 
--- the lowest slot with the name's area and the type is the record's
+-- the lowest slot with the name's area and the type is the record's, and so is the lowest with the keys of the two
 module _ (l : Layout) (right : LayoutRight l) (img : List ℕ) (rules : DiskRules l img) (name : List ℕ) (type : ℕ) (legal : is_legal l name type ≡ true) where
-  pub found_slot : {area : List ℕ} {r : Lowest} → area ≡ area_of l name → r ≡ lowest (λ s. has_name area type ((view_of l (bytes img)).entry s)) 0 l.slots
+  pub found_named : {area : List ℕ} {r : Lowest} → area ≡ area_of l name → r ≡ lowest (λ s. has_name area type ((view_of l (bytes img)).entry s)) 0 l.slots
       → r ≡ slot_of l (files_in l img) name type
-  found_slot is found =
+  found_named is found =
       found ∙ ap (λ (a : List ℕ). lowest (λ s. has_name a type ((view_of l (bytes img)).entry s)) 0 l.slots) is
       ∙ sym (slot_is l right img rules name type legal)
+
+  pub found_slot : {area : List ℕ} {k : Keys} {r : Lowest} → ((i : ℕ) → bytes img i < 256) → area ≡ area_of l name → Keyed (bytes area) 0 type k
+      → r ≡ lowest (λ s. has_keys l (bytes img) s k.low k.high k.letter) 0 l.slots → r ≡ slot_of l (files_in l img) name type
+  found_slot {area} small is keyed found =
+      let long : length area ≡ 16 = ap length is ∙ length-area l right name (both_true (legal_name l name) (legal_type l type) legal).0 in
+      found_named is (found_area l img area type small long keyed found)
 
 -- ---- the judgement of a name and a type, r being the slot found
 

@@ -1,7 +1,7 @@
 -- `calls::accepted::Disk::slot_named` meets its contract: the lowest slot with the name's area and the type is the record's slot of name and type.
 -- On a valid disk a used slot has the name exactly if it has the name's area, and an empty slot has no legal type. Assumes nothing.
 use Rattle.calls.specs.Accepts.{right_of, rules_of, slots_inside}
-use Rattle.calls.specs.Lemmas.Finding.{found_slot}
+use Rattle.calls.specs.Lemmas.Finding.{found_named}
 use Rattle.laws.specs.Lemmas.Truth.{both_true}
 use Rattle.names.specs.Names.{legal_name, legal_type}
 use Rattle.calls.proofs.accepted.Disk.slot_named.Goals as goal
@@ -15,5 +15,5 @@ slot_by-requires c = slots_inside _ _ c.args.self.now.accepted
 
 pub returns : goal.returns
 returns c =
-    found_slot c.args.self.now.layout (right_of _ _ c.args.self.now.accepted) c.args.self.now.image.now (rules_of _ _ c.args.self.now.accepted) c.args.name.now c.args.letter c.requires
+    found_named c.args.self.now.layout (right_of _ _ c.args.self.now.accepted) c.args.self.now.image.now (rules_of _ _ c.args.self.now.accepted) c.args.name.now c.args.letter c.requires
     c.area_of-area.ensures c.slot_by.ensures
