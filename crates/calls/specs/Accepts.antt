@@ -5,13 +5,13 @@ use Rattle.std.proofs.Common.{sym, ◌∙◌, refl}
 use Rattle.layout.specs.declared.Kind.{Kind}
 use Rattle.layout.specs.declared.Density.{Density}
 use Rattle.layout.specs.declared.Layout.{Layout}
-use Rattle.layout.specs.Layouts.{layout_of, slot_offset}
+use Rattle.layout.specs.Layouts.{layout_of, slot_offset, block_offset}
 use Rattle.layout.specs.Right.{LayoutRight}
 use Rattle.image.specs.Image.{DiskRules}
 use Rattle.rules.specs.declared.Accepted.{Accepted}
 use Rattle.rules.specs.Check.{check_of, Checked, accepting}
 use Rattle.calls.specs.Lemmas.Done.{done_needs}
-use Rattle.calls.specs.Lemmas.Slots.{slot_held, directory_held}
+use Rattle.calls.specs.Lemmas.Slots.{slot_held, first_held}
 
 -- The check accepts the image, and the layout is that of the kind and density that it tells.
 abbrev pub AcceptedAs : Layout → List ℕ → Type 0
@@ -33,9 +33,9 @@ module _ (l : Layout) (img : List ℕ) where
     pub rules_of : DiskRules l img
     rules_of = (needs_by (check_of img) refl accepted).1
 
-    -- a slot's bytes, and all slots', lie in the image
+    -- a slot's bytes, and the system blocks, lie in the image
     pub slot_inside : (s : ℕ) → s < l.slots → slot_offset l s + 24 ≤ length img
     slot_inside s h = slot_held l img s right_of rules_of h
 
-    pub slots_inside : slot_offset l l.slots ≤ length img
-    slots_inside = directory_held l img right_of rules_of
+    pub first_inside : block_offset l.first ≤ length img
+    first_inside = first_held l img right_of rules_of

@@ -2,7 +2,8 @@
 ghost use Rattle.std.specs.Prelude.{◌≡◌, ◌≤◌, List, ℕ, length, true};
 ghost use Rattle.laws.specs.Reader.{bytes};
 ghost use Rattle.map.specs.Map.{map_at, free_count};
-ghost use Rattle.layout.specs.Layouts.{slot_offset};
+ghost use Rattle.layout.specs.Layouts.{block_offset};
+ghost use Rattle.layout.specs.Right.{LayoutRight};
 ghost use Rattle.laws.specs.Scan.{lowest};
 ghost use Rattle.view.specs.Disk.{has_name};
 ghost use Rattle.image.specs.Image.{view_of, files_in};
@@ -15,6 +16,7 @@ ghost use Rattle.std.proofs.Props.{props};
 
 use crate::{Entry, Metered, Piece, is_legal, judge_room, unpaged};
 use laws::Refusal;
+use slots::Head;
 
 // An image that the check accepted, with its layout.
 #[derive(Clone, Copy)]
@@ -26,11 +28,15 @@ pub struct Disk<'a> {
 
 // The lowest slot that has a name area and a type. It takes the slice itself: of one in a struct no proof knows that its items are bytes.
 fn slot_by(image: &[u8], layout: layout::Layout, area: [u8; 16], letter: u8) -> Option<usize>
-    requires { slot_offset layout layout.slots ≤ length image.now }
+    requires { LayoutRight layout × (block_offset layout.first ≤ length image.now) }
     ensures { result ≡ lowest (λ s. has_name area letter ((view_of layout (bytes image.now)).entry s)) 0 layout.slots }
 {
     let keys = slots::Keys::of(&area, 0, letter);
-    slots::find_keys(image, layout, keys)
+    let head = Head {
+        bytes: image,
+        layout,
+    };
+    head.find_keys(keys)
 }
 
 impl Disk<'_> {
@@ -46,11 +52,15 @@ impl Disk<'_> {
         if slot >= slots {
             return Err(Refusal::NoFile);
         }
-        if !slots::is_used(image, layout, slot) {
+        let head = Head {
+            bytes: image,
+            layout,
+        };
+        if !head.is_used(slot) {
             return Err(Refusal::NoFile);
         }
-        let letter = slots::type_of(image, layout, slot);
-        let length = slots::size_of(image, layout, slot);
+        let letter = head.type_of(slot);
+        let length = head.size_of(slot);
         let at = directory + 24 * slot;
         let end = at + 16;
         let name = names::name_of(layout, &image[at..end]);
@@ -101,12 +111,15 @@ impl Disk<'_> {
         if let Some(slot) = self.slot_named(name, letter) {
             return Err(Refusal::NameTaken(slot));
         }
-        let slot = slots::empty_slot(self.image, self.layout).ok_or(Refusal::DirectoryFull)?;
+        let head = Head {
+            bytes: self.image,
+            layout: self.layout,
+        };
+        let slot = head.empty_slot().ok_or(Refusal::DirectoryFull)?;
         judge_room(free, size, slot)
     }
 
     // A page of a slot's file, with what it cost: 10, 17.
-    #[tactic(auto, using(crate::specs::Accepts::slot_inside))]
     pub(crate) fn page(&self, slot: usize, offset: usize, out: &mut [u8]) -> Metered
         ensures image_after { came (paged_of result.paged) out.new self.now.image.now ≡ paging self.now.image.now (file_at self.now.layout (files_in self.now.layout self.now.image.now) slot) offset out.old }
         ensures cost_value { result.cost ≡ page_cost (file_at self.now.layout (files_in self.now.layout self.now.image.now) slot) offset (length out.old) }
@@ -116,14 +129,18 @@ impl Disk<'_> {
         if slots <= slot {
             return unpaged(Refusal::NoFile);
         }
-        if !slots::is_used(image, layout, slot) {
+        let head = Head {
+            bytes: image,
+            layout,
+        };
+        if !head.is_used(slot) {
             return unpaged(Refusal::NoFile);
         }
-        let size = slots::size_of(image, layout, slot);
+        let size = head.size_of(slot);
         if offset > size {
             return unpaged(Refusal::OffsetPastEnd);
         }
-        let start = slots::start_of(image, layout, slot);
+        let start = head.start_of(slot);
         let count = out.len().min(size - offset);
         let links = (size - 1) / 1024;
         let cost = pages::page_runs(image, layout, links, start, offset, out, count);

@@ -12,6 +12,8 @@ ghost use Rattle.map.specs.Map.{map_at, Chained};
 ghost use Rattle.image.specs.Image.{view_of, set_entry, remove_image};
 ghost use Rattle.changes.specs.Changes.{entry_with, put_area, Puttable};
 
+use slots::Head;
+
 // Stores content in blocks, each block of it in its own part of the image, which is lent to the block writer.
 fn write_blocks(image: &mut [u8], layout: layout::Layout, chosen: &[u16], content: &[u8])
     requires { (length image.old ≡ image_length layout) × (layout.blocks ≤ 1600) × ((b : ℕ) → In b chosen.now → b < layout.blocks) × (blocks_for (length content.now) ≡ length chosen.now) }
@@ -79,8 +81,12 @@ pub fn remove_slot(image: &mut [u8], layout: layout::Layout, slot: usize)
     ensures { image.new ≡ remove_image layout image.old slot }
 {
     let at = layout.directory + 24 * slot;
-    let size = slots::size_of(image, layout, slot);
-    let start = slots::start_of(image, layout, slot);
+    let head = Head {
+        bytes: image,
+        layout,
+    };
+    let size = head.size_of(slot);
+    let start = head.start_of(slot);
     let owned = map::chain_blocks(image, layout, (size - 1) / 1024, start);
     map::clear_blocks(image, layout, owned.as_slice());
     blocks::clear(image, at, 22);

@@ -15,22 +15,29 @@ ghost use Rattle.rules.specs.Check.{or_unknown, second_kind, known_kind, known_s
 use laws::Refusal;
 use layout::{Density, Kind};
 use rules::{Accepted, Format};
+use slots::Head;
+
+// The head of an image of a kind and a density.
+pub fn head_of(bytes: &[u8], kind: Kind, density: Density) -> Head<'_>
+    requires { head_length ≤ length bytes.now }
+    ensures layout { result.layout ≡ layout_of kind density }
+    ensures bytes { result.bytes.now ≡ bytes.now }
+{
+    Head {
+        bytes,
+        layout: layout::layout_of(kind, density),
+    }
+}
 
 // Refusals 5 to 9 of an image that 3 and 4 don't refuse and whose used slots are counted, else what the check tells of it.
-fn check_names(
-    head: &[u8],
-    layout: layout::Layout,
-    kind: Kind,
-    density: Density,
-    files: usize,
-) -> Result<Accepted, Refusal>
-    requires { (head_length ≤ length head.now) × (layout ≡ layout_of kind density) × (lowest (bad_system layout (view_of layout (bytes head.now))) 0 layout.system ≡ None) × (Ok files ≡ or_used (lowest (malformed layout (view_of layout (bytes head.now))) 0 layout.slots) (used_count layout (view_of layout (bytes head.now)))) }
-    ensures { result ≡ check_as kind density (bytes head.now) }
+fn check_names(head: Head, kind: Kind, density: Density, files: usize) -> Result<Accepted, Refusal>
+    requires { (head.layout ≡ layout_of kind density) × (lowest (bad_system head.layout (view_of head.layout (bytes head.bytes.now))) 0 head.layout.system ≡ None) × (Ok files ≡ or_used (lowest (malformed head.layout (view_of head.layout (bytes head.bytes.now))) 0 head.layout.slots) (used_count head.layout (view_of head.layout (bytes head.bytes.now)))) }
+    ensures { result ≡ check_as kind density (bytes head.entry.bytes.now) }
 {
-    if let Some(slot) = slots::name_fault(head, layout) {
+    if let Some(slot) = head.name_fault() {
         return Err(Refusal::RepeatedName(slot));
     }
-    let free = chains::chain_rules(head, layout)?;
+    let free = chains::chain_rules(head)?;
     Ok(Accepted {
         kind,
         density,
@@ -40,16 +47,16 @@ fn check_names(
 }
 
 // The check of an image of a known kind and density: 3, then 4, then the rest.
-fn check_as(head: &[u8], kind: Kind, density: Density) -> Result<Accepted, Refusal>
-    requires { head_length ≤ length head.now }
-    ensures { result ≡ check_as kind density (bytes head.now) }
+fn check_as(image: &[u8], kind: Kind, density: Density) -> Result<Accepted, Refusal>
+    requires { head_length ≤ length image.now }
+    ensures { result ≡ check_as kind density (bytes image.now) }
 {
-    let layout = layout::layout_of(kind, density);
-    if let Some(block) = chains::system_fault(head, layout) {
+    let head = head_of(image, kind, density);
+    if let Some(block) = chains::system_fault(head) {
         return Err(Refusal::SystemBlock(block));
     }
-    let files = slots::count_formed(head, layout)?;
-    check_names(head, layout, kind, density, files)
+    let files = head.count_formed()?;
+    check_names(head, kind, density, files)
 }
 
 // The kind of an image whose first directory is passed over: 2 at low density.
@@ -73,13 +80,13 @@ fn known_kind(head: &[u8], density: Density) -> Result<Format, Refusal>
     if slots::is_passed_over(head) {
         return second_kind(density);
     }
-    if slots::has_identity(head, layout::layout_of(Kind::S900, density)) {
+    if head_of(head, Kind::S900, density).has_identity() {
         return Ok(Format {
             kind: Kind::S900,
             density,
         });
     }
-    if slots::has_identity(head, layout::layout_of(Kind::S1000, density)) {
+    if head_of(head, Kind::S1000, density).has_identity() {
         return Ok(Format {
             kind: Kind::S1000,
             density,

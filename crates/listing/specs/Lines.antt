@@ -90,8 +90,11 @@ module _ (head : List ℕ) (size : ℕ) {c : Checked} (checked : c ≡ check_sta
         absurd (let z : ◌≡◌ {A = ℕ} 0 1 = cc in omega arith)
     long_by false e = ltb-false (length head) head_length e
 
+    pub accepted_head : head_length ≤ length head
+    accepted_head = long_by _ refl
+
     pub accepted_directory : LayoutRight l × (slot_offset l l.slots ≤ length head)
-    accepted_directory = (made_right k d made, directory_held k d made (long_by _ refl))
+    accepted_directory = (made_right k d made, directory_held k d made accepted_head)
 
 -- a slot by whether it is used, its type and length, and its name's 12 bytes
 module _ (l : Layout) (head : List ℕ) (s : ℕ) {u : Bool} (asked : u ≡ used ((view_of l (bytes head)).entry s)) where

@@ -7,8 +7,6 @@
 ghost use Rattle.std.specs.Prelude.{◌≡◌, ◌++◌, ◌+◌, ◌≤◌, ◌<◌, length, IfOk, OnErr};
 ghost use Rattle.io.specs.Counts.{IsPrefixLen};
 ghost use Rattle.laws.specs.Reader.{bytes};
-ghost use Rattle.layout.specs.Layouts.{slot_offset};
-ghost use Rattle.layout.specs.Right.{LayoutRight};
 ghost use Rattle.record.specs.Record.{density_number, entry};
 ghost use Rattle.rules.specs.Check.{answer_of};
 ghost use Rattle.listing.specs.Listing.{decimal, density_word, refused_text, check_text, letter_of, file_line, slot_line, slot_lines};
@@ -17,6 +15,7 @@ ghost use Rattle.listing.specs.Puts.{Puts, Fills};
 
 use laws::Refusal;
 use rules::Accepted;
+use slots::Head;
 use std::io::{Print, Read};
 use std::rt::{Stdin, Stdout};
 
@@ -140,38 +139,32 @@ pub fn put_file(byte: u8, size: usize, name: &[u8], out: &mut [u8; 24576], at: u
 }
 
 // The line of a slot, if it is used.
-fn put_slot(
-    head: &[u8],
-    layout: layout::Layout,
-    slot: usize,
-    out: &mut [u8; 24576],
-    at: usize,
-) -> usize
-    requires { LayoutRight layout × (slot_offset layout slot + 24 ≤ length head.now) × (slot < 512) × (at ≤ 24576) }
-    ensures { Puts 47 (slot_line slot (slot_answer layout (bytes head.now) slot)) at out.old out.new result }
+fn put_slot(head: Head, slot: usize, out: &mut [u8; 24576], at: usize) -> usize
+    requires { (slot < head.layout.slots) × (at ≤ 24576) }
+    ensures { Puts 47 (slot_line slot (slot_answer head.entry.layout (bytes head.entry.bytes.now) slot)) at out.old out.new result }
 {
-    if !slots::is_used(head, layout, slot) {
+    if !head.is_used(slot) {
         return at;
     }
-    let letters = layout.letters;
-    let from = layout.directory + 24 * slot;
+    let letters = head.layout.letters;
+    let from = head.layout.directory + 24 * slot;
     let to = from + 16;
-    let name = names::name_of(layout, &head[from..to]);
-    let byte = slots::type_of(head, layout, slot);
-    let size = slots::size_of(head, layout, slot);
+    let name = names::name_of(head.layout, &head.bytes[from..to]);
+    let byte = head.type_of(slot);
+    let size = head.size_of(slot);
     let next = put_number(b"slot ", slot, out, at);
     let next = put(b" ", out, next);
     put_file(byte, size, &name[0..letters], out, next)
 }
 
 // The lines of the used slots, in order.
-fn put_slots(head: &[u8], layout: layout::Layout, out: &mut [u8; 24576], at: usize) -> usize
-    requires { LayoutRight layout × (slot_offset layout layout.slots ≤ length head.now) × (at ≤ 80) }
-    ensures { Puts 24064 (slot_lines (slot_answer layout (bytes head.now)) layout.slots) at out.old out.new result }
+fn put_slots(head: Head, out: &mut [u8; 24576], at: usize) -> usize
+    requires { at ≤ 80 }
+    ensures { Puts 24064 (slot_lines (slot_answer head.entry.layout (bytes head.entry.bytes.now)) head.entry.layout.slots) at out.old out.new result }
 {
     let mut next = at;
-    for slot in 0..layout.slots {
-        next = put_slot(head, layout, slot, out, next);
+    for slot in 0..head.layout.slots {
+        next = put_slot(head, slot, out, next);
     }
     next
 }
@@ -184,11 +177,15 @@ pub fn lines(head: &[u8], length: usize, out: &mut [u8; 24576]) -> usize
     let checked = disk::check_head(head, length);
     let next = put_checked(checked, out, 0);
     let next = put(b"\n", out, next);
-    let Ok(disk) = checked else {
+    let Ok(accepted) = checked else {
         return next;
     };
-    let next = put_slots(head, layout::layout_of(disk.kind, disk.density), out, next);
-    let next = put_number(b"end ", disk.files, out, next);
+    let next = put_slots(
+        disk::head_of(head, accepted.kind, accepted.density),
+        out,
+        next,
+    );
+    let next = put_number(b"end ", accepted.files, out, next);
     put(b"\n", out, next)
 }
 

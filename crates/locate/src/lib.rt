@@ -9,6 +9,7 @@ ghost use Rattle.locate.specs.Locate.{file_blocks, storing, blocks_of};
 
 use laws::Refusal;
 use rules::Accepted;
+use slots::Head;
 
 // Copies blocks to the output's front.
 fn copy_blocks(list: &[u16], out: &mut [u16])
@@ -19,16 +20,19 @@ fn copy_blocks(list: &[u16], out: &mut [u16])
 }
 
 // The blocks of a slot's file of an accepted image: 10, 21.
-#[tactic(auto, using(calls::specs::Accepts::slot_inside))]
 fn slot_blocks(disk: &calls::Disk, slot: usize, out: &mut [u16]) -> Result<usize, Refusal>
     ensures { filled result out.new ≡ storing (file_blocks disk.now.layout disk.now.image.now slot) out.old }
 {
     let calls::Disk { image, layout } = *disk;
-    if slot >= layout.slots || !slots::is_used(image, layout, slot) {
+    let head = Head {
+        bytes: image,
+        layout,
+    };
+    if slot >= layout.slots || !head.is_used(slot) {
         return Err(Refusal::NoFile);
     }
-    let size = slots::size_of(image, layout, slot);
-    let start = slots::start_of(image, layout, slot);
+    let size = head.size_of(slot);
+    let start = head.start_of(slot);
     let chain = map::chain_blocks(image, layout, (size - 1) / 1024, start);
     let listed = chain.as_slice();
     if out.len() < listed.len() {

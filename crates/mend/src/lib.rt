@@ -17,44 +17,34 @@ ghost use Rattle.slots.specs.Keys.{has_keys};
 ghost use Rattle.salvage.specs.Salvage.{drops, disk_after, report_of, survivors, erase_slots, wrong_system, salvage_image, map_changes, report_after};
 ghost use Rattle.mend.specs.Steps.{is_kept, kept_name, name_note, used_end, Reported, chain_said, Noted, is_dropped, is_lost, Judging};
 
+use slots::Head;
+
 // What is said of a slot that is kept; greater numbers drop one.
 const KEPT: u8 = 1;
 
 // Whether a slot is kept, and its name and type have these keys. Few names are alike, so the keys are asked first.
-fn kept_with(
-    image: &[u8],
-    layout: layout::Layout,
-    report: &[u8],
-    slot: usize,
-    keys: slots::Keys,
-) -> bool
-    requires { (slot_offset layout slot + 24 ≤ length image.now) × (slot < length report.now) }
-    ensures { result ≡ both (is_kept report.now slot) (has_keys layout (bytes image.now) slot keys.low keys.high keys.letter) }
+fn kept_with(image: Head, report: &[u8], slot: usize, keys: slots::Keys) -> bool
+    requires { (slot < image.layout.slots) × (slot < length report.now) }
+    ensures { result ≡ both (is_kept report.now slot) (has_keys image.entry.layout (bytes image.entry.bytes.now) slot keys.low keys.high keys.letter) }
 {
-    slots::has_keys(image, layout, slot, keys) && report[slot] == KEPT
+    image.has_keys(slot, keys) && report[slot] == KEPT
 }
 
 // Whether a kept slot below has a slot's name and type; the report says which are kept. Keys and type are read once.
-fn name_kept(image: &[u8], layout: layout::Layout, report: &[u8], slot: usize) -> bool
-    requires { (slot_offset layout slot + 24 ≤ length image.now) × (slot ≤ length report.now) }
-    ensures { result ≡ any (kept_name layout (view_of layout (bytes image.now)) report.now slot) 0 slot }
+fn name_kept(image: Head, report: &[u8], slot: usize) -> bool
+    requires { (slot < image.layout.slots) × (slot ≤ length report.now) }
+    ensures { result ≡ any (kept_name image.entry.layout (view_of image.entry.layout (bytes image.entry.bytes.now)) report.now slot) 0 slot }
 {
-    let keys = slots::Keys::of_slot(image, layout, slot);
-    (0..slot).any(|lower| kept_with(image, layout, report, lower, keys))
+    let keys = slots::Keys::of_slot(image, slot);
+    (0..slot).any(|lower| kept_with(image, report, lower, keys))
 }
 
 // Whether a kept slot below has a slot's name and type. They are gone through only where a used one has them.
-fn name_stands(
-    image: &[u8],
-    layout: layout::Layout,
-    report: &[u8],
-    twice: bool,
-    slot: usize,
-) -> bool
-    requires { (slot_offset layout slot + 24 ≤ length image.now) × (slot ≤ length report.now) × (used ((view_of layout (bytes image.now)).entry slot) ≡ true) × (twice ≡ repeated layout (view_of layout (bytes image.now)) slot) }
-    ensures { result ≡ any (kept_name layout (view_of layout (bytes image.now)) report.now slot) 0 slot }
+fn name_stands(image: Head, report: &[u8], twice: bool, slot: usize) -> bool
+    requires { (slot < image.layout.slots) × (slot ≤ length report.now) × (used ((view_of image.layout (bytes image.bytes.now)).entry slot) ≡ true) × (twice ≡ repeated image.layout (view_of image.layout (bytes image.bytes.now)) slot) }
+    ensures { result ≡ any (kept_name image.entry.layout (view_of image.entry.layout (bytes image.entry.bytes.now)) report.now slot) 0 slot }
 {
-    twice && name_kept(image, layout, report, slot)
+    twice && name_kept(image, report, slot)
 }
 
 // Notes the k-th block of a walk in a list, as far as that goes: no faultless chain is longer.
@@ -71,28 +61,27 @@ fn note(list: &mut [u16; 1600], k: usize, block: usize)
 // What is said of a chain: 6 or 7 for its first fault, else 8 if it has a marked block, else 1. One walk tells all of it, and lists the blocks of
 // one that is kept. No `for`: over 0..=links it would ask the same at each block, and need an answer behind its end.
 fn chain_said(
-    image: &[u8],
-    layout: layout::Layout,
+    image: Head,
     marks: &[bool; 1600],
     list: &mut [u16; 1600],
     links: usize,
     start: usize,
 ) -> u8
-    requires { LayoutRight layout × (map_offset layout.blocks ≤ length image.now) × (length list.old ≡ 1600) }
-    ensures value { result ≡ chain_said layout (map_at (bytes image.now)) marks.now false links start }
-    ensures noted { Noted list.new result (chain (map_at (bytes image.now)) links start) }
+    requires { length list.old ≡ 1600 }
+    ensures value { result ≡ chain_said image.entry.layout (map_at (bytes image.entry.bytes.now)) marks.now false links start }
+    ensures noted { Noted list.new result (chain (map_at (bytes image.entry.bytes.now)) links start) }
 {
-    let mark = layout.mark;
+    let mark = image.layout.mark;
     let mut shared = false;
     let mut block = start;
     let mut k = 0;
     loop {
-        if !map::is_link(layout, block) {
+        if !map::is_link(image.layout, block) {
             return 6;
         }
         shared |= marks[block];
         note(list, k, block);
-        let value = map::map_at(image, block);
+        let value = map::map_at(image.bytes, block);
         if k == links {
             if value != mark {
                 return 7;
@@ -113,57 +102,48 @@ fn chain_said(
 // What the run says of a slot, by the report and the marks of the slots below it and by whether a used one of them has its name and type; the blocks of
 // one that is kept are listed. The numbers are the bytes of the report that C reads (document 02, request four): 0 empty, 1 kept, else the rule that drops it.
 fn verdict_of(
-    image: &[u8],
-    layout: layout::Layout,
+    image: Head,
     report: &[u8],
     marks: &[bool; 1600],
     list: &mut [u16; 1600],
     twice: bool,
     slot: usize,
 ) -> u8
-    requires { LayoutRight layout × (block_offset layout.first ≤ length image.now) × (slot < layout.slots) × (layout.slots ≤ length report.now) × (length list.old ≡ 1600) × (twice ≡ repeated layout (view_of layout (bytes image.now)) slot) × Judging layout (view_of layout (bytes image.now)) report.now marks.now slot }
-    ensures value { result ≡ report_of layout (view_of layout (bytes image.now)) slot }
-    ensures noted { Noted list.new result (entry_chain (map_at (bytes image.now)) ((view_of layout (bytes image.now)).entry slot)) }
+    requires { (slot < image.layout.slots) × (image.layout.slots ≤ length report.now) × (length list.old ≡ 1600) × (twice ≡ repeated image.layout (view_of image.layout (bytes image.bytes.now)) slot) × Judging image.layout (view_of image.layout (bytes image.bytes.now)) report.now marks.now slot }
+    ensures value { result ≡ report_of image.entry.layout (view_of image.entry.layout (bytes image.entry.bytes.now)) slot }
+    ensures noted { Noted list.new result (entry_chain (map_at (bytes image.entry.bytes.now)) ((view_of image.entry.layout (bytes image.entry.bytes.now)).entry slot)) }
 {
-    if !slots::is_used(image, layout, slot) {
+    if !image.is_used(slot) {
         return 0;
     }
-    if slots::is_malformed(image, layout, slot) {
+    if image.is_malformed(slot) {
         return 4;
     }
-    if name_stands(image, layout, report, twice, slot) {
+    if name_stands(image, report, twice, slot) {
         return 5;
     }
-    let links = chains::links_of(image, layout, slot);
-    let start = slots::start_of(image, layout, slot);
-    chain_said(image, layout, marks, list, links, start)
+    let links = chains::links_of(image, slot);
+    let start = image.start_of(slot);
+    chain_said(image, marks, list, links, start)
 }
 
 // Marks the listed blocks of a slot's chain if it is kept.
-fn mark_kept(
-    image: &[u8],
-    layout: layout::Layout,
-    marks: &mut [bool; 1600],
-    list: &[u16; 1600],
-    slot: usize,
-    verdict: u8,
-)
-    requires { LayoutRight layout × (block_offset layout.first ≤ length image.now) × (slot < layout.slots) × (verdict ≡ report_of layout (view_of layout (bytes image.now)) slot) × Noted list.now verdict (entry_chain (map_at (bytes image.now)) ((view_of layout (bytes image.now)).entry slot)) × Marks 1600 marks.old (owned (disk_after layout (view_of layout (bytes image.now)) slot) slot) }
-    ensures { Marks 1600 marks.new (owned (disk_after layout (view_of layout (bytes image.now)) (slot + 1)) (slot + 1)) }
+fn mark_kept(image: Head, marks: &mut [bool; 1600], list: &[u16; 1600], slot: usize, verdict: u8)
+    requires { (slot < image.layout.slots) × (verdict ≡ report_of image.layout (view_of image.layout (bytes image.bytes.now)) slot) × Noted list.now verdict (entry_chain (map_at (bytes image.bytes.now)) ((view_of image.layout (bytes image.bytes.now)).entry slot)) × Marks 1600 marks.old (owned (disk_after image.layout (view_of image.layout (bytes image.bytes.now)) slot) slot) }
+    ensures { Marks 1600 marks.new (owned (disk_after image.entry.layout (view_of image.entry.layout (bytes image.entry.bytes.now)) (slot + 1)) (slot + 1)) }
 {
     if verdict == KEPT {
-        let count = chains::links_of(image, layout, slot) + 1;
+        let count = chains::links_of(image, slot) + 1;
         map::mark_blocks(marks, &list[..count]);
     }
 }
 
 // How far the used slots go, so that the passes end there: slots are filled from the lowest on.
-fn used_end(image: &[u8], layout: layout::Layout) -> usize
-    requires { slot_offset layout layout.slots ≤ length image.now }
-    ensures { result ≡ used_end (view_of layout (bytes image.now)) layout.slots }
+fn used_end(image: Head) -> usize
+    ensures { result ≡ used_end (view_of image.entry.layout (bytes image.entry.bytes.now)) image.entry.layout.slots }
 {
-    for slot in (0..layout.slots).rev() {
-        if slots::is_used(image, layout, slot) {
+    for slot in (0..image.layout.slots).rev() {
+        if image.is_used(slot) {
             return slot + 1;
         }
     }
@@ -171,14 +151,14 @@ fn used_end(image: &[u8], layout: layout::Layout) -> usize
 }
 
 // Notes in the report which slots' names and types stand in lower used slots, by the check's table of hashes.
-fn note_names(image: &[u8], layout: layout::Layout, report: &mut [u8], end: usize)
-    requires { LayoutRight layout × (block_offset layout.first ≤ length image.now) × (layout.slots ≤ length report.old) × (end ≡ used_end (view_of layout (bytes image.now)) layout.slots) }
-    ensures { Reported (name_note layout (view_of layout (bytes image.now))) report.old report.new layout.slots }
+fn note_names(image: Head, report: &mut [u8], end: usize)
+    requires { (image.layout.slots ≤ length report.old) × (end ≡ used_end (view_of image.layout (bytes image.bytes.now)) image.layout.slots) }
+    ensures { Reported (name_note image.entry.layout (view_of image.entry.layout (bytes image.entry.bytes.now))) report.old report.new image.entry.layout.slots }
 {
-    let rest = layout.slots - end;
+    let rest = image.layout.slots - end;
     let mut table = slots::Table::new();
     for slot in 0..end {
-        let twice = table.repeats(image, layout, slot);
+        let twice = table.repeats(image, slot);
         report[slot] = u8::from(twice);
     }
     blocks::clear(report, end, rest);
@@ -186,19 +166,19 @@ fn note_names(image: &[u8], layout: layout::Layout, report: &mut [u8], end: usiz
 
 // Judges the slots: what is said of them to the front of the report, and the marks of the kept chains. Gives how far the used slots go; those above
 // have their 0 from the notes.
-fn judge(image: &[u8], layout: layout::Layout, report: &mut [u8], marks: &mut [bool; 1600]) -> usize
-    requires { LayoutRight layout × (block_offset layout.first ≤ length image.now) × (layout.slots ≤ length report.old) × (marks.old ≡ replicate 1600 false) }
-    ensures report_after { report.new ≡ report_after layout image.now report.old }
-    ensures marks { Marks 1600 marks.new (owned (survivors layout (view_of layout (bytes image.now))) layout.slots) }
-    ensures value { result ≡ used_end (view_of layout (bytes image.now)) layout.slots }
+fn judge(image: Head, report: &mut [u8], marks: &mut [bool; 1600]) -> usize
+    requires { (image.layout.slots ≤ length report.old) × (marks.old ≡ replicate 1600 false) }
+    ensures report_after { report.new ≡ report_after image.entry.layout image.entry.bytes.now report.old }
+    ensures marks { Marks 1600 marks.new (owned (survivors image.entry.layout (view_of image.entry.layout (bytes image.entry.bytes.now))) image.entry.layout.slots) }
+    ensures value { result ≡ used_end (view_of image.entry.layout (bytes image.entry.bytes.now)) image.entry.layout.slots }
 {
-    let end = used_end(image, layout);
-    note_names(image, layout, report, end);
+    let end = used_end(image);
+    note_names(image, report, end);
     let mut list = [0u16; 1600];
     for slot in 0..end {
         let twice = report[slot] == 1;
-        let verdict = verdict_of(image, layout, report, marks, &mut list, twice, slot);
-        mark_kept(image, layout, marks, &list, slot, verdict);
+        let verdict = verdict_of(image, report, marks, &mut list, twice, slot);
+        mark_kept(image, marks, &list, slot, verdict);
         report[slot] = verdict;
     }
     end
@@ -284,7 +264,11 @@ pub fn salvage(image: &mut [u8], layout: layout::Layout, report: &mut [u8]) -> u
     ensures image_after { image.new ≡ salvage_image layout image.old }
 {
     let mut marks = [false; 1600];
-    let end = judge(image, layout, report, &mut marks);
+    let given = Head {
+        bytes: image,
+        layout,
+    };
+    let end = judge(given, report, &mut marks);
     erase_dropped(image, layout, report, end);
     let restored = restore_system(image, layout);
     let freed = free_strays(image, layout, &marks);

@@ -37,6 +37,13 @@ directory_held l img right rules =
     let whole = rules.size in
     omega arith
 
+-- and so do the system blocks
+pub first_held : (l : Layout) (img : List ℕ) → LayoutRight l → DiskRules l img → block_offset l.first ≤ length img
+first_held l img right rules =
+    let some = right.data_some in
+    let whole = rules.size in
+    omega arith
+
 module _ (l : Layout) (img : List ℕ) (s : ℕ) where
   pub file_above : l.slots ≤ s → file_at l (files_in l img) s ≡ none
   unfolding file_at

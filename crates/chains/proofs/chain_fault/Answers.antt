@@ -55,7 +55,7 @@ module _ (l : Layout) (v : View) (s : ℕ) where
 
 pub slots-init : goal.slots-init
 unfolding owned
-slots-init c = (omega arith, rw c.requires.2 (marks_none 1600), rw sub-zero)
+slots-init c = (omega arith, rw c.requires (marks_none 1600), rw sub-zero)
 
 pub slots-preserved-then-not-is_used : goal.slots-preserved-then-not-is_used
 slots-preserved-then-not-is_used c =
@@ -63,21 +63,21 @@ slots-preserved-then-not-is_used c =
     let e = sym c.is_used.ensures ∙ c.if-not-is_used.true in
     (omega (arith, c.if-end-next.false), empty_marks _ _ e _ i.1, i.2 ∙ lowest-on _ _ _ c.if-end-next.false (empty_sound _ _ _ e))
 
-pub loop-layout-init : goal.loop-layout-init
-loop-layout-init c = (walk_starts _ _ _ _ _ c.links_of-left.ensures c.start_of-block.ensures, refl)
+pub loop-slot-init : goal.loop-slot-init
+loop-slot-init c = (walk_starts _ _ _ _ _ c.links_of-left.ensures c.start_of-block.ensures, refl)
 
 pub returns-then-end-next : goal.returns-then-end-next
 returns-then-end-next c =
     let i = c.slots.invariant in
     let a = c.args in
-    let z : c.slots.next ≡ a.layout.slots = omega arith in
+    let z : c.slots.next ≡ a.head.layout.slots = omega arith in
     let e = i.2 ∙ lowest_end _ _ _ c.if-end-next.true in
     record { fault = rw e; marks_all = λ _. rw z at i.1 }
 
 pub bounds-marks-block : goal.bounds-marks-block
 bounds-marks-block c =
     let linked = sym c.is_link.ensures ∙ c.if-not-is_link.false in
-    omega (arith, (link_data _ _ linked).1, c.requires.0.blocks_most)
+    omega (arith, (link_data _ _ linked).1, c.args.head.right.blocks_most)
 
 pub map_at-value-requires : goal.map_at-value-requires
 map_at-value-requires c =
@@ -88,27 +88,27 @@ pub slots-preserved : goal.slots-preserved
 slots-preserved c =
     let linked = sym c.is_link.ensures ∙ c.if-not-is_link.false in
     let i = c.slots.invariant in
-    let w = c.loop-layout.invariant.0 ∙ walk_whole _ _ _ _ _ linked c.map_at-value.ensures c.if-left-eq0.true c.if-value-mark.true in
+    let w = c.loop-slot.invariant.0 ∙ walk_whole _ _ _ _ _ linked c.map_at-value.ensures c.if-left-eq0.true c.if-value-mark.true in
     let used_is = sym c.is_used.ensures ∙ c.if-not-is_used.false in
-    let m = whole_marks _ _ _ c.requires.0 _ _ used_is c.links_of-left.ensures c.start_of-block.ensures w _ i.1 in
-    (omega (arith, c.if-end-next.false), rw (c.loop-layout.invariant.1 ∙ mark_last _ _ _ _ c.if-left-eq0.true) at m, i.2 ∙ lowest-on _ _ _ c.if-end-next.false (whole_sound _ _ _ w))
+    let m = whole_marks _ _ _ c.args.head.right _ _ used_is c.links_of-left.ensures c.start_of-block.ensures w _ i.1 in
+    (omega (arith, c.if-end-next.false), rw (c.loop-slot.invariant.1 ∙ mark_last _ _ _ _ c.if-left-eq0.true) at m, i.2 ∙ lowest-on _ _ _ c.if-end-next.false (whole_sound _ _ _ w))
 
-pub loop-layout-preserved : goal.loop-layout-preserved
-loop-layout-preserved c =
+pub loop-slot-preserved : goal.loop-slot-preserved
+loop-slot-preserved c =
     let linked = sym c.is_link.ensures ∙ c.if-not-is_link.false in
-    let i = c.loop-layout.invariant in
+    let i = c.loop-slot.invariant in
     (i.0 ∙ walk-on _ _ _ _ _ linked c.map_at-value.ensures c.if-left-eq0.false c.if-value-mark-2.false, i.1 ∙ mark_next _ _ _ _ _ c.map_at-value.ensures c.if-left-eq0.false)
 
 pub returns-then-not-is_link : goal.returns-then-not-is_link
 returns-then-not-is_link c =
-    stopped _ _ _ Bad c.if-end-next.false (sym c.is_used.ensures ∙ c.if-not-is_used.false) (c.loop-layout.invariant.0 ∙ walk_bad _ _ _ _ (sym c.is_link.ensures ∙ c.if-not-is_link.true)) refl c.slots.invariant.2 _
+    stopped _ _ _ Bad c.if-end-next.false (sym c.is_used.ensures ∙ c.if-not-is_used.false) (c.loop-slot.invariant.0 ∙ walk_bad _ _ _ _ (sym c.is_link.ensures ∙ c.if-not-is_link.true)) refl c.slots.invariant.2 _
 
 pub returns-else-value-mark : goal.returns-else-value-mark
 returns-else-value-mark c =
     let linked = sym c.is_link.ensures ∙ c.if-not-is_link.false in
-    stopped _ _ _ Cut c.if-end-next.false (sym c.is_used.ensures ∙ c.if-not-is_used.false) (c.loop-layout.invariant.0 ∙ walk-over _ _ _ _ _ linked c.map_at-value.ensures c.if-left-eq0.true c.if-value-mark.false) refl c.slots.invariant.2 _
+    stopped _ _ _ Cut c.if-end-next.false (sym c.is_used.ensures ∙ c.if-not-is_used.false) (c.loop-slot.invariant.0 ∙ walk-over _ _ _ _ _ linked c.map_at-value.ensures c.if-left-eq0.true c.if-value-mark.false) refl c.slots.invariant.2 _
 
 pub returns-then-value-mark-2 : goal.returns-then-value-mark-2
 returns-then-value-mark-2 c =
     let linked = sym c.is_link.ensures ∙ c.if-not-is_link.false in
-    stopped _ _ _ Cut c.if-end-next.false (sym c.is_used.ensures ∙ c.if-not-is_used.false) (c.loop-layout.invariant.0 ∙ walk_cut _ _ _ _ _ linked c.map_at-value.ensures c.if-left-eq0.false c.if-value-mark-2.true) refl c.slots.invariant.2 _
+    stopped _ _ _ Cut c.if-end-next.false (sym c.is_used.ensures ∙ c.if-not-is_used.false) (c.loop-slot.invariant.0 ∙ walk_cut _ _ _ _ _ linked c.map_at-value.ensures c.if-left-eq0.false c.if-value-mark-2.true) refl c.slots.invariant.2 _

@@ -9,18 +9,18 @@ use Rattle.view.specs.Disk.{owned}
 use Rattle.view.specs.Rules.{walk_of, broken}
 use Rattle.chains.proofs.chain_fault.Given as goal
 
-abbrev pub invariant-loop-layout : goal.invariant-loop-layout
-invariant-loop-layout l =
-    (walk_of l.layout (view_of l.layout (bytes l.head)) l.slot ≡ walk l.layout (map_at (bytes l.head)) l.left l.block)
-    × (marked l.initial.marks (chain (map_at (bytes l.head)) l.initial.left l.initial.block) ≡ marked l.marks (chain (map_at (bytes l.head)) l.left l.block))
+abbrev pub invariant-loop-slot : goal.invariant-loop-slot
+invariant-loop-slot l =
+    (walk_of l.head.layout (view_of l.head.layout (bytes l.head.bytes.now)) l.slot ≡ walk l.head.layout (map_at (bytes l.head.bytes.now)) l.left l.block)
+    × (marked l.initial.marks (chain (map_at (bytes l.head.bytes.now)) l.initial.left l.initial.block) ≡ marked l.marks (chain (map_at (bytes l.head.bytes.now)) l.left l.block))
 
-abbrev pub decreases-loop-layout : goal.decreases-loop-layout
-decreases-loop-layout l = l.left
+abbrev pub decreases-loop-slot : goal.decreases-loop-slot
+decreases-loop-slot l = l.left
 
 abbrev pub invariant-slots : goal.invariant-slots
 invariant-slots l =
-    (l.next ≤ l.end) × Marks 1600 l.marks (owned (view_of l.layout (bytes l.head)) l.next)
-    × (lowest (broken l.layout (view_of l.layout (bytes l.head))) 0 l.end ≡ lowest (broken l.layout (view_of l.layout (bytes l.head))) l.next (l.end - l.next))
+    (l.next ≤ l.end) × Marks 1600 l.marks (owned (view_of l.head.layout (bytes l.head.bytes.now)) l.next)
+    × (lowest (broken l.head.layout (view_of l.head.layout (bytes l.head.bytes.now))) 0 l.end ≡ lowest (broken l.head.layout (view_of l.head.layout (bytes l.head.bytes.now))) l.next (l.end - l.next))
 
 abbrev pub decreases-slots : goal.decreases-slots
 decreases-slots l = l.end - l.next

@@ -15,12 +15,12 @@ loop-slot-init c = (refl, omega arith)
 pub overflow_add-blocks : goal.overflow_add-blocks
 overflow_add-blocks c =
     let p = c.requires in
-    omega (arith, links_few _ p.0 _ p.2 _ c.loop-slot-test.true (sym c.is_used.ensures ∙ c.if-is_used.true) c.links_of.ensures)
+    omega (arith, links_few _ c.args.head.right _ p _ c.loop-slot-test.true (sym c.is_used.ensures ∙ c.if-is_used.true) c.links_of.ensures)
 
 pub overflow_add-blocks-then-is_used : goal.overflow_add-blocks-then-is_used
 overflow_add-blocks-then-is_used c =
     let p = c.requires in
-    omega (arith, links_few _ p.0 _ p.2 _ c.loop-slot-test.true (sym c.is_used.ensures ∙ c.if-is_used.true) c.links_of.ensures, c.loop-slot.invariant.1, p.0.slots_few)
+    omega (arith, links_few _ c.args.head.right _ p _ c.loop-slot-test.true (sym c.is_used.ensures ∙ c.if-is_used.true) c.links_of.ensures, c.loop-slot.invariant.1, c.args.head.right.slots_few)
 
 pub loop-slot-preserved : goal.loop-slot-preserved
 loop-slot-preserved c =
@@ -29,13 +29,13 @@ loop-slot-preserved c =
     elim c.if-is_used.branch [
       | then-is_used w ↦
           let u = sym c.is_used.ensures ∙ w.if-is_used.true in
-          let few = links_few _ p.0 _ p.2 _ c.loop-slot-test.true u w.links_of.ensures in
+          let few = links_few _ c.args.head.right _ p _ c.loop-slot-test.true u w.links_of.ensures in
           rw w.blocks-is
-          (omega (arith, i.0, owned-used (view_of c.args.layout (bytes c.args.head.now)) c.loop-slot.slot u w.links_of.ensures), omega (arith, few, i.1))
+          (omega (arith, i.0, owned-used (view_of c.args.head.layout (bytes c.args.head.bytes.now)) c.loop-slot.slot u w.links_of.ensures), omega (arith, few, i.1))
       | else-is_used w ↦ rw w.blocks-is (i.0 ∙ sym (owned_empty _ _ (sym c.is_used.ensures ∙ w.if-is_used.false)), omega (arith, i.1))
     ]
 
 pub returns : goal.returns
 returns c =
-    let z : c.loop-slot.slot ≡ c.args.layout.slots = omega arith in
+    let z : c.loop-slot.slot ≡ c.args.head.layout.slots = omega arith in
     rw z at c.loop-slot.invariant.0

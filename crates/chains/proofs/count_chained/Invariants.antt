@@ -7,4 +7,4 @@ use Rattle.view.specs.Disk.{owned}
 use Rattle.chains.proofs.count_chained.Given as goal
 
 abbrev pub invariant-loop-slot : goal.invariant-loop-slot
-invariant-loop-slot l = (l.blocks ≡ length (owned (view_of l.layout (bytes l.head)) l.slot)) × (l.blocks ≤ 1600 * l.slot)
+invariant-loop-slot l = (l.blocks ≡ length (owned (view_of l.head.layout (bytes l.head.bytes.now)) l.slot)) × (l.blocks ≤ 1600 * l.slot)

@@ -10,4 +10,4 @@ abbrev pub is_free : List ℕ → ℕ → Bool
 is_free head block = eqb (map_at (bytes head) block) 0
 
 abbrev pub invariant-loop-block : goal.invariant-loop-block
-invariant-loop-block l = (l.free ≤ l.block) × (l.free + count (is_free l.head) l.block (l.block-end - l.block) ≡ count (is_free l.head) l.initial.block (l.block-end - l.initial.block))
+invariant-loop-block l = (l.free ≤ l.block) × (l.free + count (is_free l.head.bytes.now) l.block (l.block-end - l.block) ≡ count (is_free l.head.bytes.now) l.initial.block (l.block-end - l.initial.block))

@@ -29,21 +29,21 @@ module _ (l : Layout) (ms : List Bool) (marked i : ℕ) (c : Counting l ms marke
 
 pub loop-mark-init : goal.loop-mark-init
 loop-mark-init c =
-    let z : c.args.layout.first + 0 ≡ c.args.layout.first = omega arith in
+    let z : c.args.head.layout.first + 0 ≡ c.args.head.layout.first = omega arith in
     (omega arith, rw z (omega arith))
 
 pub overflow_add-marked : goal.overflow_add-marked
-overflow_add-marked c = omega (arith, c.requires.blocks_most, c.loop-mark.invariant.0, below c.args.layout c.args.marks.now _ _ c.loop-mark.invariant c.loop-mark-test.true (omega (arith, c.requires.blocks_most)))
+overflow_add-marked c = omega (arith, c.args.head.right.blocks_most, c.loop-mark.invariant.0, below c.args.head.layout c.args.marks.now _ _ c.loop-mark.invariant c.loop-mark-test.true (omega (arith, c.args.head.right.blocks_most)))
 
 pub loop-mark-preserved : goal.loop-mark-preserved
 loop-mark-preserved c =
-    let held : c.args.layout.blocks ≤ length c.args.marks.now = omega (arith, c.requires.blocks_most) in
+    let held : c.args.head.layout.blocks ≤ length c.args.marks.now = omega (arith, c.args.head.right.blocks_most) in
     elim c.if-mark.branch [
-      | then-mark w ↦ rw w.marked-is (one_more c.args.layout _ _ _ c.loop-mark.invariant c.loop-mark-test.true held w.if-mark.true)
-      | else-mark w ↦ rw w.marked-is (no_more c.args.layout _ _ _ c.loop-mark.invariant c.loop-mark-test.true held w.if-mark.false)
+      | then-mark w ↦ rw w.marked-is (one_more c.args.head.layout _ _ _ c.loop-mark.invariant c.loop-mark-test.true held w.if-mark.true)
+      | else-mark w ↦ rw w.marked-is (no_more c.args.head.layout _ _ _ c.loop-mark.invariant c.loop-mark-test.true held w.if-mark.false)
     ]
 
 pub returns : goal.returns
 returns c =
-    let l = c.args.layout in
-    omega (arith, c.from.ensures, c.loop-mark.invariant.1, count_end (is_marked c.args.marks.now) (l.first + c.loop-mark.mark-index) l.blocks (omega (arith, lent_size c.args.marks.now l.first (l.blocks - l.first) (omega (arith, c.requires.blocks_most)))))
+    let l = c.args.head.layout in
+    omega (arith, c.from.ensures, c.loop-mark.invariant.1, count_end (is_marked c.args.marks.now) (l.first + c.loop-mark.mark-index) l.blocks (omega (arith, lent_size c.args.marks.now l.first (l.blocks - l.first) (omega (arith, c.args.head.right.blocks_most)))))

@@ -13,4 +13,4 @@ Counting l marks marked i =
     (marked ≤ i) × (marked + count (is_marked marks) (l.first + i) (l.blocks - (l.first + i)) ≡ count (is_marked marks) l.first (l.blocks - l.first))
 
 abbrev pub invariant-loop-mark : goal.invariant-loop-mark
-invariant-loop-mark l = Counting l.fn.layout l.marks l.marked l.mark-index
+invariant-loop-mark l = Counting l.fn.head.layout l.marks l.marked l.mark-index

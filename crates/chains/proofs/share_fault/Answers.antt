@@ -49,7 +49,7 @@ module _ (l : Layout) (v : View) (s k b : ℕ) where
 
 pub loop-slot-init : goal.loop-slot-init
 unfolding owned
-loop-slot-init c = (searched_none _ _, rw c.requires.3 (marks_none 1600))
+loop-slot-init c = (searched_none _ _, rw c.requires.1 (marks_none 1600))
 
 pub loop-slot-preserved-then-not-is_used : goal.loop-slot-preserved-then-not-is_used
 loop-slot-preserved-then-not-is_used c =
@@ -60,27 +60,27 @@ loop-slot-preserved-then-not-is_used c =
 pub touches-requires : goal.touches-requires
 touches-requires c =
     let p = c.requires in
-    let w = slot_walked _ _ _ _ _ p.0 p.2 c.loop-slot-test.true (sym c.is_used.ensures ∙ c.if-not-is_used.false) c.links_of-links.ensures c.start_of-start.ensures in
-    (search rules, p.0, w.chained)
+    let w = slot_walked _ _ _ _ _ c.args.head.right p.0 c.loop-slot-test.true (sym c.is_used.ensures ∙ c.if-not-is_used.false) c.links_of-links.ensures c.start_of-start.ensures in
+    (search rules, c.args.head.right, w.chained)
 
 pub mark_chain-requires : goal.mark_chain-requires
 mark_chain-requires c =
     let p = c.requires in
-    let w = slot_walked _ _ _ _ _ p.0 p.2 c.loop-slot-test.true (sym c.is_used.ensures ∙ c.if-not-is_used.false) c.links_of-links.ensures c.start_of-start.ensures in
-    (search rules, p.0, w.chained)
+    let w = slot_walked _ _ _ _ _ c.args.head.right p.0 c.loop-slot-test.true (sym c.is_used.ensures ∙ c.if-not-is_used.false) c.links_of-links.ensures c.start_of-start.ensures in
+    (search rules, c.args.head.right, w.chained)
 
 pub returns-then-touches : goal.returns-then-touches
 returns-then-touches c =
     let p = c.requires in
     let i = c.loop-slot.invariant in
-    let w = slot_walked _ _ _ _ _ p.0 p.2 c.loop-slot-test.true (sym c.is_used.ensures ∙ c.if-not-is_used.false) c.links_of-links.ensures c.start_of-start.ensures in
+    let w = slot_walked _ _ _ _ _ c.args.head.right p.0 c.loop-slot-test.true (sym c.is_used.ensures ∙ c.if-not-is_used.false) c.links_of-links.ensures c.start_of-start.ensures in
     searched_found _ _ _ i.0 c.loop-slot-test.true (c.touches.ensures ∙ sym (shared_is _ _ _ _ _ w _ i.1)) c.if-touches.true
 
 pub loop-slot-preserved : goal.loop-slot-preserved
 loop-slot-preserved c =
     let p = c.requires in
     let i = c.loop-slot.invariant in
-    let w = slot_walked _ _ _ _ _ p.0 p.2 c.loop-slot-test.true (sym c.is_used.ensures ∙ c.if-not-is_used.false) c.links_of-links.ensures c.start_of-start.ensures in
+    let w = slot_walked _ _ _ _ _ c.args.head.right p.0 c.loop-slot-test.true (sym c.is_used.ensures ∙ c.if-not-is_used.false) c.links_of-links.ensures c.start_of-start.ensures in
     (searched_more _ _ _ i.0 c.loop-slot-test.true (c.touches.ensures ∙ sym (shared_is _ _ _ _ _ w _ i.1)) c.if-touches.false, rw c.mark_chain.ensures (w.marks _ i.1))
 
 pub returns : goal.returns

@@ -10,4 +10,4 @@ use Rattle.chains.proofs.share_fault.Given as goal
 
 abbrev pub invariant-loop-slot : goal.invariant-loop-slot
 invariant-loop-slot l =
-    Searched (sharing l.layout (view_of l.layout (bytes l.head))) l.layout.slots l.slot × Marks 1600 l.marks (owned (view_of l.layout (bytes l.head)) l.slot)
+    Searched (sharing l.head.layout (view_of l.head.layout (bytes l.head.bytes.now))) l.head.layout.slots l.slot × Marks 1600 l.marks (owned (view_of l.head.layout (bytes l.head.bytes.now)) l.slot)

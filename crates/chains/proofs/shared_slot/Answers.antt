@@ -9,4 +9,4 @@ use Rattle.chains.proofs.shared_slot.Goals as goal
 pub returns-then-marked-count_chained : goal.returns-then-marked-count_chained
 returns-then-marked-count_chained c =
     let a = c.args in
-    sym (tally_apart a.layout c.requires.0 (view_of a.layout (bytes a.head.now)) c.requires.2 (sym c.requires.3 ∙ c.if-marked-count_chained.true ∙ c.count_chained.ensures))
+    sym (tally_apart a.head.layout c.args.head.right (view_of a.head.layout (bytes a.head.bytes.now)) c.requires.0 (sym c.requires.1 ∙ c.if-marked-count_chained.true ∙ c.count_chained.ensures))

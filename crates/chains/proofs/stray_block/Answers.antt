@@ -8,10 +8,10 @@ use Rattle.map.specs.Map.{map_at}
 use Rattle.chains.proofs.stray_block.Goals as goal
 
 pub overflow_sub-left-2 : goal.overflow_sub-left-2
-overflow_sub-left-2 c = omega (arith, c.requires.4, free_most c.args.layout (map_at (bytes c.args.head.now)))
+overflow_sub-left-2 c = omega (arith, c.requires.2, free_most c.args.head.layout (map_at (bytes c.args.head.bytes.now)))
 
 pub returns-then-marked-left : goal.returns-then-marked-left
 returns-then-marked-left c =
     let a = c.args in
-    let v = view_of a.layout (bytes a.head.now) in
-    sym (tally_all a.layout c.requires.0 v c.requires.2 (omega (arith, c.requires.3, c.requires.4, c.if-marked-left.true, free_most a.layout v.map)))
+    let v = view_of a.head.layout (bytes a.head.bytes.now) in
+    sym (tally_all a.head.layout c.args.head.right v c.requires.0 (omega (arith, c.requires.1, c.requires.2, c.if-marked-left.true, free_most a.head.layout v.map)))

@@ -10,5 +10,5 @@ use Rattle.chains.proofs.stray_fault.Goals as goal
 
 pub returns : goal.returns
 returns c =
-    let l = c.args.layout in
-    find_told _ (stray l (view_of l (bytes c.args.head.now))) l.first l.blocks (l.blocks - l.first) c.find.ensures.ran (cc) refl (λ x t q k. search (rules, tests))
+    let l = c.args.head.layout in
+    find_told _ (stray l (view_of l (bytes c.args.head.bytes.now))) l.first l.blocks (l.blocks - l.first) c.find.ensures.ran (cc) refl (λ x t q k. search (rules, tests))

@@ -11,5 +11,5 @@ use Rattle.chains.proofs.system_fault.Goals as goal
 pub returns : goal.returns
 unfolding bad_system
 returns c =
-    let l = c.args.layout in
-    find_told _ (bad_system l (view_of l (bytes c.args.head.now))) 0 l.system l.system c.find.ensures.ran (cc) (omega arith) (λ x t q k. search (rules, tests))
+    let l = c.args.head.layout in
+    find_told _ (bad_system l (view_of l (bytes c.args.head.bytes.now))) 0 l.system l.system c.find.ensures.ran (cc) (omega arith) (λ x t q k. search (rules, tests))

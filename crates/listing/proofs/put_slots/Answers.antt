@@ -19,5 +19,5 @@ loop-slot-preserved c =
 pub returns : goal.returns
 returns c =
     let l = c.loop-slot in
-    let e : l.slot ≡ c.args.layout.slots = omega arith in
-    rw e at (puts_near l.invariant 24064 (omega (arith, l.invariant.near, c.requires.0.slots_few)))
+    let e : l.slot ≡ c.args.head.layout.slots = omega arith in
+    rw e at (puts_near l.invariant 24064 (omega (arith, l.invariant.near, c.args.head.right.slots_few)))

@@ -8,4 +8,4 @@ use Rattle.listing.specs.Puts.{Puts}
 use Rattle.listing.proofs.put_slots.Given as goal
 
 abbrev pub invariant-loop-slot : goal.invariant-loop-slot
-invariant-loop-slot l = Puts (47 * l.slot) (slot_lines (slot_answer l.layout (bytes l.head)) l.slot) l.at l.initial.out l.out l.next
+invariant-loop-slot l = Puts (47 * l.slot) (slot_lines (slot_answer l.head.layout (bytes l.head.bytes.now)) l.slot) l.at l.initial.out l.out l.next

@@ -1,13 +1,16 @@
 -- `locate::slot_blocks` meets its contract: 10 for a slot without a file, 21 for a short output, else the blocks of its chain.
 -- A used slot of an accepted image has a faultless chain, which is collected and copied. Assumes nothing.
 use Rattle.std.proofs.Common.{◌≡◌, sym, ap, ◌∙◌, arith, length}
-use Rattle.calls.specs.Accepts.{right_of, rules_of}
+use Rattle.calls.specs.Accepts.{right_of, rules_of, first_inside}
 use Rattle.calls.specs.Lemmas.Paging.{size_some, slot_chained}
 use Rattle.changes.specs.Lemmas.Lent.{slice-all}
 use Rattle.locate.specs.Lemmas.Locate.{blocks_above, blocks_empty, blocks_short}
 use Rattle.locate.proofs.Lemmas.Locate.{blocks_all}
 use Rattle.locate.proofs.slot_blocks.Goals.{then-slot-layout-via-then-slot-layout, then-slot-layout-via-else-slot-layout+then-not-is_used}
 use Rattle.locate.proofs.slot_blocks.Goals as goal
+
+pub invariant_of-head : goal.invariant_of-head
+invariant_of-head c = record { right = right_of _ _ c.args.disk.now.accepted; long = first_inside _ _ c.args.disk.now.accepted }
 
 pub returns-then-slot-layout : goal.returns-then-slot-layout
 returns-then-slot-layout c =

@@ -7,11 +7,11 @@ use Rattle.mend.specs.Lemmas.Noting.{Noting}
 use Rattle.mend.specs.Steps.{chain_said}
 use Rattle.mend.proofs.chain_said.Given as goal
 
-abbrev pub invariant-loop-layout : goal.invariant-loop-layout
-invariant-loop-layout l =
+abbrev pub invariant-loop-links : goal.invariant-loop-links
+invariant-loop-links l =
     (l.k ≤ l.links)
-    × (chain_said l.layout (map_at (bytes l.image)) l.marks false l.links l.start ≡ chain_said l.layout (map_at (bytes l.image)) l.marks l.shared (l.links - l.k) l.block)
-    × (l.block ≡ get_or (chain (map_at (bytes l.image)) l.links l.start) l.k 0) × Noting l.list (chain (map_at (bytes l.image)) l.links l.start) l.k
+    × (chain_said l.image.layout (map_at (bytes l.image.bytes.now)) l.marks false l.links l.start ≡ chain_said l.image.layout (map_at (bytes l.image.bytes.now)) l.marks l.shared (l.links - l.k) l.block)
+    × (l.block ≡ get_or (chain (map_at (bytes l.image.bytes.now)) l.links l.start) l.k 0) × Noting l.list (chain (map_at (bytes l.image.bytes.now)) l.links l.start) l.k
 
-abbrev pub decreases-loop-layout : goal.decreases-loop-layout
-decreases-loop-layout l = l.links - l.k
+abbrev pub decreases-loop-links : goal.decreases-loop-links
+decreases-loop-links l = l.links - l.k

@@ -11,5 +11,5 @@ use Rattle.mend.proofs.judge.Given as goal
 
 abbrev pub invariant-loop-slot : goal.invariant-loop-slot
 invariant-loop-slot l =
-    Reported (report_of l.layout (view_of l.layout (bytes l.image))) l.initial.report l.report l.slot × (length l.list ≡ 1600)
-    × Marks 1600 l.marks (owned (disk_after l.layout (view_of l.layout (bytes l.image)) l.slot) l.slot)
+    Reported (report_of l.image.layout (view_of l.image.layout (bytes l.image.bytes.now))) l.initial.report l.report l.slot × (length l.list ≡ 1600)
+    × Marks 1600 l.marks (owned (disk_after l.image.layout (view_of l.image.layout (bytes l.image.bytes.now)) l.slot) l.slot)

@@ -15,7 +15,7 @@ pub returns : goal.returns
 unfolding kept_name
 returns c =
     let a = c.args in
-    let b = bytes a.image.now in
+    let b = bytes a.image.bytes.now in
     let k = c.of_slot-keys.result in
-    any_passed (λ s. both (is_kept a.report.now s) (has_keys a.layout b s k.low k.high k.letter)) 0 a.slot a.slot c.any.ensures.ran (cc) (omega arith) (λ x t q m. search (rules, tests))
-    ∙ any_cong _ _ 0 a.slot (λ s p q. ap (both (is_kept a.report.now s)) (keyed_name a.layout b a.slot s c.of_slot-keys.ensures refl))
+    any_passed (λ s. both (is_kept a.report.now s) (has_keys a.image.layout b s k.low k.high k.letter)) 0 a.slot a.slot c.any.ensures.ran (cc) (omega arith) (λ x t q m. search (rules, tests))
+    ∙ any_cong _ _ 0 a.slot (λ s p q. ap (both (is_kept a.report.now s)) (keyed_name a.image.layout b a.slot s c.of_slot-keys.ensures refl))

@@ -8,30 +8,30 @@ use Rattle.mend.specs.Lemmas.Setting.{told}
 use Rattle.mend.proofs.note_names.Goals as goal
 
 pub overflow_sub-rest : goal.overflow_sub-rest
-overflow_sub-rest c = omega (arith, few c.args.layout c.args.image.now c.requires.3)
+overflow_sub-rest c = omega (arith, few c.args.image.layout c.args.image.bytes.now c.requires.1)
 
 pub loop-slot-init : goal.loop-slot-init
-loop-slot-init c = let none = c.new-table.ensures c.args.layout (bytes c.args.image.now) in (reported_none _ _, none.0, none.1)
+loop-slot-init c = let none = c.new-table.ensures c.args.image.layout (bytes c.args.image.bytes.now) in (reported_none _ _, none.0, none.1)
 
 pub repeats-twice-requires : goal.repeats-twice-requires
 repeats-twice-requires c =
-    let low = few c.args.layout c.args.image.now c.requires.3 in
+    let low = few c.args.image.layout c.args.image.bytes.now c.requires.1 in
     let k = c.loop-slot.invariant in
-    (omega (arith, c.requires.1, c.requires.0.directory_low, low), omega (arith, c.requires.0.slots_few, low), k.1, k.2)
+    (omega (arith, low), k.1, k.2)
 
 pub bounds-report-slot : goal.bounds-report-slot
-bounds-report-slot c = omega (arith, few c.args.layout c.args.image.now c.requires.3, c.requires.2, c.loop-slot.invariant.0.size)
+bounds-report-slot c = omega (arith, few c.args.image.layout c.args.image.bytes.now c.requires.1, c.requires.0, c.loop-slot.invariant.0.size)
 
 pub loop-slot-preserved : goal.loop-slot-preserved
 loop-slot-preserved c =
     let turn = c.repeats-twice.ensures in
-    (reported_turn _ _ _ _ _ (omega (arith, c.requires.2, few c.args.layout c.args.image.now c.requires.3)) (c.from.ensures ∙ told _ ∙ ap (λ (x : Bool). pick x 1 0) turn.answer) c.loop-slot.invariant.0, turn.tops_on, turn.lowers_on)
+    (reported_turn _ _ _ _ _ (omega (arith, c.requires.0, few c.args.image.layout c.args.image.bytes.now c.requires.1)) (c.from.ensures ∙ told _ ∙ ap (λ (x : Bool). pick x 1 0) turn.answer) c.loop-slot.invariant.0, turn.tops_on, turn.lowers_on)
 
 pub clear-requires : goal.clear-requires
-clear-requires c = omega (arith, few c.args.layout c.args.image.now c.requires.3, c.requires.2, c.loop-slot.invariant.0.size)
+clear-requires c = omega (arith, few c.args.image.layout c.args.image.bytes.now c.requires.1, c.requires.0, c.loop-slot.invariant.0.size)
 
 pub returns : goal.returns
 returns c =
     let k = c.loop-slot in
     let z : k.slot ≡ c.args.end = omega (arith, c.loop-slot-test.false) in
-    rw c.clear.ensures (noted_above _ _ _ _ c.requires.3 refl c.requires.2 (rw z at k.invariant.0))
+    rw c.clear.ensures (noted_above _ _ _ _ c.requires.1 refl c.requires.0 (rw z at k.invariant.0))

@@ -8,4 +8,4 @@ use Rattle.mend.proofs.note_names.Given as goal
 
 abbrev pub invariant-loop-slot : goal.invariant-loop-slot
 invariant-loop-slot l =
-    Reported (name_note l.layout (view_of l.layout (bytes l.image))) l.initial.report l.report l.slot × Tops l.layout (bytes l.image) l.table.tops l.slot × Lowers l.layout (bytes l.image) l.table.lowers l.slot
+    Reported (name_note l.image.layout (view_of l.image.layout (bytes l.image.bytes.now))) l.initial.report l.report l.slot × Tops l.image.layout (bytes l.image.bytes.now) l.table.tops l.slot × Lowers l.image.layout (bytes l.image.bytes.now) l.table.lowers l.slot

@@ -21,10 +21,10 @@ module _ (v : View) (end : ℕ) (some : 0 < end) where
   on u = sym (highest-on (λ s. used (v.entry s)) (end - 1) u) ∙ back
 
 pub returns-then-is_used : goal.returns-then-is_used
-returns-then-is_used c = here (view_of c.args.layout (bytes c.args.image.now)) _ (omega (arith, c.loop-slot-test.true)) (sym c.is_used.ensures ∙ c.if-is_used.true) ∙ c.loop-slot.invariant
+returns-then-is_used c = here (view_of c.args.image.layout (bytes c.args.image.bytes.now)) _ (omega (arith, c.loop-slot-test.true)) (sym c.is_used.ensures ∙ c.if-is_used.true) ∙ c.loop-slot.invariant
 
 pub loop-slot-preserved : goal.loop-slot-preserved
-loop-slot-preserved c = on (view_of c.args.layout (bytes c.args.image.now)) _ (omega (arith, c.loop-slot-test.true)) (sym c.is_used.ensures ∙ c.if-is_used.false) ∙ c.loop-slot.invariant
+loop-slot-preserved c = on (view_of c.args.image.layout (bytes c.args.image.bytes.now)) _ (omega (arith, c.loop-slot-test.true)) (sym c.is_used.ensures ∙ c.if-is_used.false) ∙ c.loop-slot.invariant
 
 pub returns : goal.returns
 unfolding highest

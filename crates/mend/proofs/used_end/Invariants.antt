@@ -7,4 +7,4 @@ use Rattle.mend.specs.Steps.{used_end}
 use Rattle.mend.proofs.used_end.Given as goal
 
 abbrev pub invariant-loop-slot : goal.invariant-loop-slot
-invariant-loop-slot l = used_end (view_of l.layout (bytes l.image)) l.slot ≡ used_end (view_of l.layout (bytes l.image)) l.layout.slots
+invariant-loop-slot l = used_end (view_of l.image.layout (bytes l.image.bytes.now)) l.slot ≡ used_end (view_of l.image.layout (bytes l.image.bytes.now)) l.image.layout.slots

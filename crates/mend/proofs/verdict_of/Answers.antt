@@ -9,19 +9,19 @@ use Rattle.mend.proofs.verdict_of.Goals as goal
 
 pub returns-then-not-is_used : goal.returns-then-not-is_used
 returns-then-not-is_used c =
-    record { value = sym (verdict_empty _ _ _ (sym c.is_used.ensures ∙ c.if-not-is_used.true)); noted = noted_not c.requires.4 (λ e. omega arith) }
+    record { value = sym (verdict_empty _ _ _ (sym c.is_used.ensures ∙ c.if-not-is_used.true)); noted = noted_not c.requires.2 (λ e. omega arith) }
 
 pub returns-then-is_malformed : goal.returns-then-is_malformed
 returns-then-is_malformed c =
     let is_used_is = sym c.is_used.ensures ∙ c.if-not-is_used.false in
-    record { value = sym (verdict-malformed _ _ _ is_used_is (sym c.is_malformed.ensures ∙ c.if-is_malformed.true)); noted = noted_not c.requires.4 (λ e. omega arith) }
+    record { value = sym (verdict-malformed _ _ _ is_used_is (sym c.is_malformed.ensures ∙ c.if-is_malformed.true)); noted = noted_not c.requires.2 (λ e. omega arith) }
 
 pub returns-then-name_stands : goal.returns-then-name_stands
 returns-then-name_stands c =
     let is_used_is = sym c.is_used.ensures ∙ c.if-not-is_used.false in
     let is_formed = sym c.is_malformed.ensures ∙ c.if-is_malformed.false in
     let p = c.requires in
-    record { value = sym (verdict-repeated _ _ _ is_used_is _ _ p.6 is_formed c.name_stands.ensures c.if-name_stands.true); noted = noted_not p.4 (λ e. omega arith) }
+    record { value = sym (verdict-repeated _ _ _ is_used_is _ _ p.4 is_formed c.name_stands.ensures c.if-name_stands.true); noted = noted_not p.2 (λ e. omega arith) }
 
 pub returns : goal.returns
 returns c =
@@ -31,6 +31,6 @@ returns c =
     let from = c.start_of-start.ensures in
     record {
       value = c.chain_said.ensures.value
-          ∙ sym (verdict-chain _ _ _ is_used_is _ _ c.requires.6 is_formed c.requires.0 few from c.name_stands.ensures c.if-name_stands.false);
-      noted = noted_entry _ ((view_of c.args.layout (bytes c.args.image.now)).entry c.args.slot) few from c.chain_said.ensures.noted;
+          ∙ sym (verdict-chain _ _ _ is_used_is _ _ c.requires.4 is_formed c.args.image.right few from c.name_stands.ensures c.if-name_stands.false);
+      noted = noted_entry _ ((view_of c.args.image.layout (bytes c.args.image.bytes.now)).entry c.args.slot) few from c.chain_said.ensures.noted;
     }

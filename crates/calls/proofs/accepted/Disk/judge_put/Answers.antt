@@ -2,7 +2,7 @@
 -- Each test decides the cascade's next step, whatever the content of that length is. Assumes nothing.
 use Rattle.std.proofs.Common.{sym, ◌∙◌}
 use Rattle.std.proofs.lemmas.Result.{err_from_is_err_and}
-use Rattle.calls.specs.Accepts.{right_of, rules_of, slots_inside}
+use Rattle.calls.specs.Accepts.{right_of, rules_of, first_inside}
 use Rattle.calls.specs.Lemmas.Putting.{put_illegal, put_empty, put_taken, put_none, put_some, put_room}
 use Rattle.calls.proofs.accepted.Disk.judge_put.Goals as goal
 
@@ -16,8 +16,8 @@ returns-then-size-eq0 c =
 pub slot_named-requires : goal.slot_named-requires
 slot_named-requires c = sym c.is_legal.ensures ∙ c.if-not-is_legal.false
 
-pub empty_slot-requires : goal.empty_slot-requires
-empty_slot-requires c = slots_inside _ _ c.args.self.now.accepted
+pub invariant_of-head : goal.invariant_of-head
+invariant_of-head c = record { right = right_of _ _ c.args.self.now.accepted; long = first_inside _ _ c.args.self.now.accepted }
 
 pub returns-in-Some : goal.returns-in-Some
 returns-in-Some c =

@@ -1,12 +1,15 @@
 -- `calls::accepted::Disk::list` meets its contract: a slot without a file is refused by 10, a used one shows its entry and its name.
 -- From what the slot's readers and the name's reader ensure. Assumes nothing.
 use Rattle.std.proofs.Common.{sym, ap, ◌∙◌, List, ℕ, arith}
-use Rattle.calls.specs.Accepts.{right_of, rules_of}
+use Rattle.calls.specs.Accepts.{right_of, rules_of, first_inside}
 use Rattle.calls.specs.Lemmas.Listing.{lists_none, lists_file, area-lent}
 use Rattle.calls.specs.Lemmas.Slots.{file_above, file_empty}
 use Rattle.laws.specs.Padded.{padded}
 use Rattle.names.specs.Names.{name_of}
 use Rattle.calls.proofs.accepted.Disk.list.Goals as goal
+
+pub invariant_of-head : goal.invariant_of-head
+invariant_of-head c = record { right = right_of _ _ c.args.self.now.accepted; long = first_inside _ _ c.args.self.now.accepted }
 
 pub returns-then-slot-slots : goal.returns-then-slot-slots
 returns-then-slot-slots c =

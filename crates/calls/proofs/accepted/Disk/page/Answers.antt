@@ -1,7 +1,7 @@
 -- `calls::accepted::Disk::page` meets its contract: a slot without a file is refused by 10, an offset above the length by 17, else page and cost are the record's.
 -- The bytes copied are the chain's, of which the file's content is the front, and the chain has as many blocks as the file. Assumes nothing.
 use Rattle.std.proofs.Common.{◌≡◌, refl, sym, ap, ◌∙◌, true, arith}
-use Rattle.calls.specs.Accepts.{right_of, rules_of}
+use Rattle.calls.specs.Accepts.{right_of, rules_of, first_inside}
 use Rattle.calls.specs.Lemmas.Paging.{meters_none, meters_above, meters_file, size_some, content-size, slot_chained, page-bytes}
 use Rattle.calls.specs.Lemmas.Slots.{slot_file, file_above, file_empty, file-used}
 use Rattle.image.specs.Image.{view_of}
@@ -9,6 +9,9 @@ use Rattle.laws.specs.Reader.{bytes}
 use Rattle.laws.specs.Splice.{splice}
 use Rattle.view.specs.Disk.{used}
 use Rattle.calls.proofs.accepted.Disk.page.Goals as goal
+
+pub invariant_of-head : goal.invariant_of-head
+invariant_of-head c = record { right = right_of _ _ c.args.self.now.accepted; long = first_inside _ _ c.args.self.now.accepted }
 
 pub returns-then-slots-slot : goal.returns-then-slots-slot
 returns-then-slots-slot c =

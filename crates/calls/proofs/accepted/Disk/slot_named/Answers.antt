@@ -1,6 +1,6 @@
 -- `calls::accepted::Disk::slot_named` meets its contract: the lowest slot with the name's area and the type is the record's slot of name and type.
 -- On a valid disk a used slot has the name exactly if it has the name's area, and an empty slot has no legal type. Assumes nothing.
-use Rattle.calls.specs.Accepts.{right_of, rules_of, slots_inside}
+use Rattle.calls.specs.Accepts.{right_of, rules_of, first_inside}
 use Rattle.calls.specs.Lemmas.Finding.{found_named}
 use Rattle.laws.specs.Lemmas.Truth.{both_true}
 use Rattle.names.specs.Names.{legal_name, legal_type}
@@ -11,7 +11,7 @@ area_of-area-requires c =
     ((right_of _ _ c.args.self.now.accepted), (both_true (legal_name c.args.self.now.layout c.args.name.now) (legal_type c.args.self.now.layout c.args.letter) c.requires).0)
 
 pub slot_by-requires : goal.slot_by-requires
-slot_by-requires c = slots_inside _ _ c.args.self.now.accepted
+slot_by-requires c = (right_of _ _ c.args.self.now.accepted, first_inside _ _ c.args.self.now.accepted)
 
 pub returns : goal.returns
 returns c =

@@ -1,0 +1,14 @@
+-- `slots::Head::empty_slot` meets its contract: `find` over the slots finds the lowest empty one.
+-- By the library's law for `find` over a range. Assumes nothing.
+use Rattle.std.proofs.Common.{arith, rules, not}
+use borrow.Author.Tests.{tests}
+use Rattle.image.specs.Image.{view_of}
+use Rattle.laws.proofs.Ranges.{find_told}
+use Rattle.laws.specs.Reader.{bytes}
+use Rattle.view.specs.Disk.{used}
+use Rattle.slots.proofs.head.Head.empty_slot.Goals as goal
+
+pub returns : goal.returns
+returns c =
+    let a = c.args in
+    find_told _ (λ s. not (used ((view_of a.self.layout (bytes a.self.bytes.now)).entry s))) 0 a.self.layout.slots a.self.layout.slots c.find.ensures.ran (cc) (omega arith) (λ x t q k. search (rules, tests))
