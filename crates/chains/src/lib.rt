@@ -2,9 +2,10 @@
 // Only the check and the salvage run call these; that directory and map lie in the head is told by its type.
 #![tactic(auto)]
 
-ghost use Rattle.std.specs.Prelude.{◌≡◌, false, ◌-◌, ◌<◌, length, get_or, replicate, None};
+ghost use Rattle.std.specs.Prelude.{◌≡◌, false, ◌+◌, ◌-◌, ◌≤◌, ◌<◌, length, get_or, replicate, None};
 ghost use Rattle.laws.specs.Reader.{bytes};
 ghost use Rattle.laws.specs.Scan.{lowest, count};
+ghost use Rattle.layout.specs.Layouts.{slot_offset};
 ghost use Rattle.blocks.specs.Blocks.{links_for};
 ghost use Rattle.map.specs.Map.{map_at, free_count, Marks};
 ghost use Rattle.view.specs.Disk.{owned};
@@ -23,11 +24,11 @@ pub fn system_fault(head: Head) -> Option<usize>
 }
 
 // How many blocks of a slot's chain come after the first.
-pub fn links_of(head: Head, slot: usize) -> usize
-    requires { slot < head.layout.slots }
-    ensures { result ≡ links_for ((view_of head.entry.layout (bytes head.entry.bytes.now)).entry slot).size }
+pub fn links_of(head: &[u8], layout: layout::Layout, slot: usize) -> usize
+    requires { slot_offset layout slot + 24 ≤ length head.now }
+    ensures { result ≡ links_for ((view_of layout (bytes head.now)).entry slot).size }
 {
-    head.size_of(slot).saturating_sub(1) / 1024
+    slots::size_of(head, layout, slot).saturating_sub(1) / 1024
 }
 
 // The lowest slot whose chain has a fault, refused by the chain's first one (6 or 7). The marks are left as those of all chains where
@@ -48,7 +49,7 @@ fn chain_fault(head: Head, marks: &mut [bool; 1600]) -> Result<(), Refusal>
         if !head.is_used(slot) {
             continue 'slots;
         }
-        let mut left = links_of(head, slot);
+        let mut left = links_of(head.bytes, head.layout, slot);
         let mut block = head.start_of(slot);
         let place = slot;
         loop {
@@ -81,7 +82,7 @@ fn count_chained(head: Head) -> usize
     let mut blocks = 0;
     for slot in 0..head.layout.slots {
         if head.is_used(slot) {
-            blocks += links_of(head, slot) + 1;
+            blocks += links_of(head.bytes, head.layout, slot) + 1;
         }
     }
     blocks
@@ -109,7 +110,7 @@ fn share_fault(head: Head, marks: &mut [bool; 1600]) -> Option<usize>
         if !head.is_used(slot) {
             continue;
         }
-        let links = links_of(head, slot);
+        let links = links_of(head.bytes, head.layout, slot);
         let start = head.start_of(slot);
         if map::touches(head.bytes, head.layout, marks, links, start) {
             return Some(slot);

@@ -35,7 +35,7 @@ fn name_kept(image: Head, report: &[u8], slot: usize) -> bool
     requires { (slot < image.layout.slots) × (slot ≤ length report.now) }
     ensures { result ≡ any (kept_name image.entry.layout (view_of image.entry.layout (bytes image.entry.bytes.now)) report.now slot) 0 slot }
 {
-    let keys = slots::Keys::of_slot(image, slot);
+    let keys = slots::Keys::of_slot(image.bytes, image.layout, slot);
     (0..slot).any(|lower| kept_with(image, report, lower, keys))
 }
 
@@ -122,7 +122,7 @@ fn verdict_of(
     if name_stands(image, report, twice, slot) {
         return 5;
     }
-    let links = chains::links_of(image, slot);
+    let links = chains::links_of(image.bytes, image.layout, slot);
     let start = image.start_of(slot);
     chain_said(image, marks, list, links, start)
 }
@@ -133,7 +133,7 @@ fn mark_kept(image: Head, marks: &mut [bool; 1600], list: &[u16; 1600], slot: us
     ensures { Marks 1600 marks.new (owned (disk_after image.entry.layout (view_of image.entry.layout (bytes image.entry.bytes.now)) (slot + 1)) (slot + 1)) }
 {
     if verdict == KEPT {
-        let count = chains::links_of(image, slot) + 1;
+        let count = chains::links_of(image.bytes, image.layout, slot) + 1;
         map::mark_blocks(marks, &list[..count]);
     }
 }
@@ -158,7 +158,7 @@ fn note_names(image: Head, report: &mut [u8], end: usize)
     let rest = image.layout.slots - end;
     let mut table = slots::Table::new();
     for slot in 0..end {
-        let twice = table.repeats(image, slot);
+        let twice = table.repeats(image.bytes, image.layout, slot);
         report[slot] = u8::from(twice);
     }
     blocks::clear(report, end, rest);

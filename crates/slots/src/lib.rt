@@ -1,11 +1,12 @@
 // The directory of an image's head: a slot's fields, and refusals 2, 4 and 5 with the number of used slots.
-// Only the crates above call these; that directory and map lie in the head is told by its type.
+// Only the crates above call these; that the directory lies in the head is shown by its length.
 #![tactic(auto)]
 
-ghost use Rattle.std.specs.Prelude.{◌≡◌, ℕ, true, not, ◌+◌, ◌≤◌, ◌<◌, length};
+ghost use Rattle.std.specs.Prelude.{◌≡◌, ℕ, true, not, ◌+◌, ◌^◌, ◌≤◌, ◌<◌, length};
 ghost use Rattle.laws.specs.Reader.{bytes};
 ghost use Rattle.laws.specs.Scan.{lowest, any};
 ghost use Rattle.layout.specs.Layouts.{slot_offset};
+ghost use Rattle.layout.specs.Right.{LayoutRight};
 ghost use Rattle.layout.specs.declared.Layout.{Layout};
 ghost use Rattle.view.specs.Disk.{used, formed};
 ghost use Rattle.view.specs.Rules.{malformed, has_name_of, repeated};
@@ -20,102 +21,46 @@ mod head;
 pub use head::Head;
 use laws::Refusal;
 
-impl Head<'_> {
-    // Where a slot's entry begins in the head.
-    fn offset_of(self, slot: usize) -> usize
-        requires { slot < self.layout.slots }
-        ensures value { result ≡ slot_offset self.entry.layout slot }
-        ensures within { result + 24 ≤ length self.entry.bytes.now }
-    {
-        self.layout.directory + 24 * slot
-    }
+// Where a slot's entry begins in the head.
+fn offset_of(layout: layout::Layout, slot: usize) -> usize
+    requires { slot_offset layout slot < 2 ^ 64 }
+    ensures { result ≡ slot_offset layout slot }
+{
+    layout.directory + 24 * slot
+}
 
-    // Whether a slot is used.
-    #[tactic(auto, unfolding(image::specs::Image::entry_at, view::specs::Disk::used))]
-    pub fn is_used(self, slot: usize) -> bool
-        requires { slot < self.layout.slots }
-        ensures { result ≡ used ((view_of self.entry.layout (bytes self.entry.bytes.now)).entry slot) }
-    {
-        self.bytes[self.offset_of(slot) + 16] != 0
-    }
+// Whether a slot is used.
+#[tactic(auto, unfolding(image::specs::Image::entry_at, view::specs::Disk::used))]
+pub fn is_used(head: &[u8], layout: layout::Layout, slot: usize) -> bool
+    requires { slot_offset layout slot + 24 ≤ length head.now }
+    ensures { result ≡ used ((view_of layout (bytes head.now)).entry slot) }
+{
+    head[offset_of(layout, slot) + 16] != 0
+}
 
-    // A slot's type byte, length and start block.
-    #[tactic(auto, unfolding(image::specs::Image::entry_at))]
-    pub fn type_of(self, slot: usize) -> u8
-        requires { slot < self.layout.slots }
-        ensures { result ≡ ((view_of self.entry.layout (bytes self.entry.bytes.now)).entry slot).type }
-    {
-        self.bytes[self.offset_of(slot) + 16]
-    }
+// A slot's type byte, length and start block.
+#[tactic(auto, unfolding(image::specs::Image::entry_at))]
+pub fn type_of(head: &[u8], layout: layout::Layout, slot: usize) -> u8
+    requires { slot_offset layout slot + 24 ≤ length head.now }
+    ensures { result ≡ ((view_of layout (bytes head.now)).entry slot).type }
+{
+    head[offset_of(layout, slot) + 16]
+}
 
-    #[tactic(auto, unfolding(image::specs::Image::entry_at))]
-    pub fn size_of(self, slot: usize) -> usize
-        requires { slot < self.layout.slots }
-        ensures { result ≡ ((view_of self.entry.layout (bytes self.entry.bytes.now)).entry slot).size }
-    {
-        blocks::number::<3>(self.bytes, self.offset_of(slot) + 17)
-    }
+#[tactic(auto, unfolding(image::specs::Image::entry_at))]
+pub fn size_of(head: &[u8], layout: layout::Layout, slot: usize) -> usize
+    requires { slot_offset layout slot + 24 ≤ length head.now }
+    ensures { result ≡ ((view_of layout (bytes head.now)).entry slot).size }
+{
+    blocks::number::<3>(head, offset_of(layout, slot) + 17)
+}
 
-    #[tactic(auto, unfolding(image::specs::Image::entry_at))]
-    pub fn start_of(self, slot: usize) -> usize
-        requires { slot < self.layout.slots }
-        ensures { result ≡ ((view_of self.entry.layout (bytes self.entry.bytes.now)).entry slot).start }
-    {
-        blocks::number::<2>(self.bytes, self.offset_of(slot) + 20)
-    }
-
-    // A slot's identity.
-    #[tactic(auto, unfolding(image::specs::Image::entry_at))]
-    fn identity_of(self, slot: usize) -> usize
-        requires { slot < self.layout.slots }
-        ensures { result ≡ ((view_of self.entry.layout (bytes self.entry.bytes.now)).entry slot).identity }
-    {
-        blocks::number::<2>(self.bytes, self.offset_of(slot) + 22)
-    }
-
-    // Whether every slot, empty ones too, has the layout's identity (refusal 2).
-    pub fn has_identity(self) -> bool
-        ensures { result ≡ has_identity self.entry.layout (bytes self.entry.bytes.now) }
-    {
-        (0..self.layout.slots).all(|slot| self.identity_of(slot) == self.layout.identity)
-    }
-
-    // Whether a slot's type, length, identity and name's area are legal.
-    fn is_formed(self, slot: usize) -> bool
-        requires { slot < self.layout.slots }
-        ensures { result ≡ formed self.entry.layout ((view_of self.entry.layout (bytes self.entry.bytes.now)).entry slot) }
-    {
-        let at = self.offset_of(slot);
-        names::is_type(self.layout, self.type_of(slot))
-            && self.size_of(slot) != 0
-            && self.identity_of(slot) == self.layout.identity
-            && names::is_area(self.layout, &self.bytes[at..at + 16])
-    }
-
-    // Whether a slot is used and not well formed.
-    #[tactic(auto, unfolding(view::specs::Rules::malformed))]
-    pub fn is_malformed(self, slot: usize) -> bool
-        requires { slot < self.layout.slots }
-        ensures { result ≡ malformed self.entry.layout (view_of self.entry.layout (bytes self.entry.bytes.now)) slot }
-    {
-        self.is_used(slot) && !self.is_formed(slot)
-    }
-
-    // The number of used slots, or refusal 4 at the lowest malformed one.
-    pub fn count_formed(self) -> Result<usize, Refusal>
-        ensures { result ≡ or_used (lowest (malformed self.entry.layout (view_of self.entry.layout (bytes self.entry.bytes.now))) 0 self.entry.layout.slots) (used_count self.entry.layout (view_of self.entry.layout (bytes self.entry.bytes.now))) }
-    {
-        let mut counted = 0;
-        for slot in 0..self.layout.slots {
-            if self.is_malformed(slot) {
-                return Err(Refusal::MalformedSlot(slot));
-            }
-            if self.is_used(slot) {
-                counted += 1;
-            }
-        }
-        Ok(counted)
-    }
+#[tactic(auto, unfolding(image::specs::Image::entry_at))]
+pub fn start_of(head: &[u8], layout: layout::Layout, slot: usize) -> usize
+    requires { slot_offset layout slot + 24 ≤ length head.now }
+    ensures { result ≡ ((view_of layout (bytes head.now)).entry slot).start }
+{
+    blocks::number::<2>(head, offset_of(layout, slot) + 20)
 }
 
 // Whether the first directory is passed over: its slot 0 has type byte 255 (refusal 2).
@@ -125,6 +70,61 @@ pub fn is_passed_over(head: &[u8]) -> bool
     ensures { result ≡ passed_over (bytes head.now) }
 {
     head[16] == 255
+}
+
+// A slot's identity.
+#[tactic(auto, unfolding(image::specs::Image::entry_at))]
+fn identity_of(head: &[u8], layout: layout::Layout, slot: usize) -> usize
+    requires { slot_offset layout slot + 24 ≤ length head.now }
+    ensures { result ≡ ((view_of layout (bytes head.now)).entry slot).identity }
+{
+    blocks::number::<2>(head, offset_of(layout, slot) + 22)
+}
+
+// Whether every slot, empty ones too, has the layout's identity (refusal 2).
+pub fn has_identity(head: &[u8], layout: layout::Layout) -> bool
+    requires { slot_offset layout layout.slots ≤ length head.now }
+    ensures { result ≡ has_identity layout (bytes head.now) }
+{
+    (0..layout.slots).all(|slot| identity_of(head, layout, slot) == layout.identity)
+}
+
+// Whether a slot's type, length, identity and name's area are legal.
+fn is_formed(head: &[u8], layout: layout::Layout, slot: usize) -> bool
+    requires { LayoutRight layout × (slot_offset layout slot + 24 ≤ length head.now) }
+    ensures { result ≡ formed layout ((view_of layout (bytes head.now)).entry slot) }
+{
+    let at = offset_of(layout, slot);
+    names::is_type(layout, type_of(head, layout, slot))
+        && size_of(head, layout, slot) != 0
+        && identity_of(head, layout, slot) == layout.identity
+        && names::is_area(layout, &head[at..at + 16])
+}
+
+// Whether a slot is used and not well formed.
+#[tactic(auto, unfolding(view::specs::Rules::malformed))]
+pub fn is_malformed(head: &[u8], layout: layout::Layout, slot: usize) -> bool
+    requires { LayoutRight layout × (slot_offset layout slot + 24 ≤ length head.now) }
+    ensures { result ≡ malformed layout (view_of layout (bytes head.now)) slot }
+{
+    is_used(head, layout, slot) && !is_formed(head, layout, slot)
+}
+
+// The number of used slots, or refusal 4 at the lowest malformed one.
+pub fn count_formed(head: &[u8], layout: layout::Layout) -> Result<usize, Refusal>
+    requires { LayoutRight layout × (slot_offset layout layout.slots ≤ length head.now) }
+    ensures { result ≡ or_used (lowest (malformed layout (view_of layout (bytes head.now))) 0 layout.slots) (used_count layout (view_of layout (bytes head.now))) }
+{
+    let mut counted = 0;
+    for slot in 0..layout.slots {
+        if is_malformed(head, layout, slot) {
+            return Err(Refusal::MalformedSlot(slot));
+        }
+        if is_used(head, layout, slot) {
+            counted += 1;
+        }
+    }
+    Ok(counted)
 }
 
 // Half a name's area as one number: eight bytes compare at once.
@@ -155,70 +155,71 @@ impl Keys {
     }
 
     // Those of a slot.
-    pub fn of_slot(head: Head, slot: usize) -> Keys
-        requires { slot < head.layout.slots }
-        ensures { Keyed (bytes head.entry.bytes.now) (slot_offset head.entry.layout slot) ((view_of head.entry.layout (bytes head.entry.bytes.now)).entry slot).type result }
+    pub fn of_slot(head: &[u8], layout: layout::Layout, slot: usize) -> Keys
+        requires { slot_offset layout slot + 24 ≤ length head.now }
+        ensures { Keyed (bytes head.now) (slot_offset layout slot) ((view_of layout (bytes head.now)).entry slot).type result }
     {
-        Keys::of(head.bytes, head.offset_of(slot), head.type_of(slot))
+        Keys::of(head, offset_of(layout, slot), type_of(head, layout, slot))
     }
+}
+
+// Whether a slot's name and type have these keys. For a file's type no empty slot passes: theirs is 0. The first key is asked alone before: it
+// tells most names apart, and the compiler's order of `==` doesn't (a find in 512 slots takes 0.51 µs by `==` alone, 0.19 µs so).
+pub fn has_keys(head: &[u8], layout: layout::Layout, slot: usize, keys: Keys) -> bool
+    requires { slot_offset layout slot + 24 ≤ length head.now }
+    ensures { result ≡ has_keys layout (bytes head.now) slot keys.low keys.high keys.letter }
+{
+    if key(head, offset_of(layout, slot)) != keys.low {
+        return false;
+    }
+    Keys::of_slot(head, layout, slot) == keys
+}
+
+// The lowest slot whose name and type have these keys.
+pub fn find_keys(head: &[u8], layout: layout::Layout, keys: Keys) -> Option<usize>
+    requires { slot_offset layout layout.slots ≤ length head.now }
+    ensures { result ≡ lowest (λ s. has_keys layout (bytes head.now) s keys.low keys.high keys.letter) 0 layout.slots }
+{
+    (0..layout.slots).find(|&slot| has_keys(head, layout, slot, keys))
 }
 
 // Half a key's bytes make a number below this.
 const HALF: usize = 4294967296;
 
-impl Head<'_> {
-    // Whether a slot's name and type have these keys. For a file's type no empty slot passes: theirs is 0. The first key is asked alone before: it
-    // tells most names apart, and the compiler's order of `==` doesn't (a find in 512 slots takes 0.51 µs by `==` alone, 0.19 µs so).
-    pub fn has_keys(self, slot: usize, keys: Keys) -> bool
-        requires { slot < self.layout.slots }
-        ensures { result ≡ has_keys self.entry.layout (bytes self.entry.bytes.now) slot keys.low keys.high keys.letter }
-    {
-        if key(self.bytes, self.offset_of(slot)) != keys.low {
-            return false;
+// A hash of a slot's name and type: the halves of both keys, so that the sum fits and one division does; by a prime, so that every byte counts. With the
+// type in it a sample and the program of its name are as seldom compared as any two files.
+fn hash_of(head: &[u8], layout: layout::Layout, slot: usize) -> usize
+    requires { slot_offset layout slot + 24 ≤ length head.now }
+    ensures { Hash layout (bytes head.now) slot result }
+{
+    let Keys { low, high, letter } = Keys::of_slot(head, layout, slot);
+    let letter = usize::from(letter);
+    (low % HALF + 31 * (low / HALF) + 961 * (high % HALF) + 29791 * (high / HALF) + 923521 * letter)
+        % 1009
+}
+
+// Whether a used slot's name and type stand in a lower slot: only those with its hash are compared, from the highest of them on downwards. A list that
+// leads through the table: no range holds it, so it is walked by hand.
+fn stands_below(
+    head: &[u8],
+    layout: layout::Layout,
+    lowers: &[u16; 512],
+    top: usize,
+    slot: usize,
+) -> bool
+    requires { (slot_offset layout slot + 24 ≤ length head.now) × (slot < 512) × (used ((view_of layout (bytes head.now)).entry slot) ≡ true) × Lowers layout (bytes head.now) lowers.now slot × (top ≡ highest (has_hash_of layout (bytes head.now) slot) slot) }
+    ensures { result ≡ any (has_name_of layout (view_of layout (bytes head.now)) slot) 0 slot }
+{
+    let keys = Keys::of_slot(head, layout, slot);
+    let mut next = top;
+    while next != 0 {
+        let other = next - 1;
+        if has_keys(head, layout, other, keys) {
+            return true;
         }
-        Keys::of_slot(self, slot) == keys
+        next = usize::from(lowers[other]);
     }
-
-    // The lowest slot whose name and type have these keys.
-    pub fn find_keys(self, keys: Keys) -> Option<usize>
-        ensures { result ≡ lowest (λ s. has_keys self.entry.layout (bytes self.entry.bytes.now) s keys.low keys.high keys.letter) 0 self.entry.layout.slots }
-    {
-        (0..self.layout.slots).find(|&slot| self.has_keys(slot, keys))
-    }
-
-    // A hash of a slot's name and type: the halves of both keys, so that the sum fits and one division does; by a prime, so that every byte counts. With the
-    // type in it a sample and the program of its name are as seldom compared as any two files.
-    fn hash_of(self, slot: usize) -> usize
-        requires { slot < self.layout.slots }
-        ensures { Hash self.entry.layout (bytes self.entry.bytes.now) slot result }
-    {
-        let Keys { low, high, letter } = Keys::of_slot(self, slot);
-        let letter = usize::from(letter);
-        (low % HALF
-            + 31 * (low / HALF)
-            + 961 * (high % HALF)
-            + 29791 * (high / HALF)
-            + 923521 * letter)
-            % 1009
-    }
-
-    // Whether a used slot's name and type stand in a lower slot: only those with its hash are compared, from the highest of them on downwards. A list that
-    // leads through the table: no range holds it, so it is walked by hand.
-    fn stands_below(self, lowers: &[u16; 512], top: usize, slot: usize) -> bool
-        requires { (slot < self.layout.slots) × (used ((view_of self.layout (bytes self.bytes.now)).entry slot) ≡ true) × Lowers self.layout (bytes self.bytes.now) lowers.now slot × (top ≡ highest (has_hash_of self.layout (bytes self.bytes.now) slot) slot) }
-        ensures { result ≡ any (has_name_of self.entry.layout (view_of self.entry.layout (bytes self.entry.bytes.now)) slot) 0 slot }
-    {
-        let keys = Keys::of_slot(self, slot);
-        let mut next = top;
-        while next != 0 {
-            let other = next - 1;
-            if self.has_keys(other, keys) {
-                return true;
-            }
-            next = usize::from(lowers[other]);
-        }
-        false
-    }
+    false
 }
 
 // The files by their hashes: for each hash the highest slot so far, for each slot the next lower one with its hash. Both stand there plus 1; 0 is none.
@@ -240,41 +241,41 @@ impl Table {
     }
 
     // Whether a slot is used and its name and type stand in a lower one. The table takes the slot.
-    pub fn repeats(&mut self, head: Head, slot: usize) -> bool
-        requires { (slot < head.layout.slots) × Tops head.layout (bytes head.bytes.now) self.old.tops slot × Lowers head.layout (bytes head.bytes.now) self.old.lowers slot }
-        ensures { Turn head.entry.layout (bytes head.entry.bytes.now) self.new.tops self.new.lowers slot result }
+    pub fn repeats(&mut self, head: &[u8], layout: layout::Layout, slot: usize) -> bool
+        requires { (slot_offset layout slot + 24 ≤ length head.now) × (slot < 512) × Tops layout (bytes head.now) self.old.tops slot × Lowers layout (bytes head.now) self.old.lowers slot }
+        ensures { Turn layout (bytes head.now) self.new.tops self.new.lowers slot result }
     {
-        if !head.is_used(slot) {
+        if !is_used(head, layout, slot) {
             return false;
         }
-        let hash = head.hash_of(slot);
+        let hash = hash_of(head, layout, slot);
         let top = self.tops[hash];
-        let found = head.stands_below(&self.lowers, usize::from(top), slot);
+        let found = stands_below(head, layout, &self.lowers, usize::from(top), slot);
         self.lowers[slot] = top;
         self.tops[hash] = (slot + 1) as u16;
         found
     }
 }
 
-impl Head<'_> {
-    // The lowest slot whose name and type stand in a lower used slot (refusal 5), by a table of hashes.
-    pub fn name_fault(self) -> Option<usize>
-        ensures { result ≡ lowest (repeated self.entry.layout (view_of self.entry.layout (bytes self.entry.bytes.now))) 0 self.entry.layout.slots }
-    {
-        let end = self.layout.slots;
-        let mut table = Table::new();
-        for slot in 0..end {
-            if table.repeats(self, slot) {
-                return Some(slot);
-            }
+// The lowest slot whose name and type stand in a lower used slot (refusal 5), by a table of hashes.
+pub fn name_fault(head: &[u8], layout: layout::Layout) -> Option<usize>
+    requires { LayoutRight layout × (slot_offset layout layout.slots ≤ length head.now) }
+    ensures { result ≡ lowest (repeated layout (view_of layout (bytes head.now))) 0 layout.slots }
+{
+    let end = layout.slots;
+    let mut table = Table::new();
+    for slot in 0..end {
+        if table.repeats(head, layout, slot) {
+            return Some(slot);
         }
-        None
     }
+    None
+}
 
-    // The lowest empty slot.
-    pub fn empty_slot(self) -> Option<usize>
-        ensures { result ≡ lowest (λ s. not (used ((view_of self.entry.layout (bytes self.entry.bytes.now)).entry s))) 0 self.entry.layout.slots }
-    {
-        (0..self.layout.slots).find(|&slot| !self.is_used(slot))
-    }
+// The lowest empty slot.
+pub fn empty_slot(head: &[u8], layout: layout::Layout) -> Option<usize>
+    requires { slot_offset layout layout.slots ≤ length head.now }
+    ensures { result ≡ lowest (λ s. not (used ((view_of layout (bytes head.now)).entry s))) 0 layout.slots }
+{
+    (0..layout.slots).find(|&slot| !is_used(head, layout, slot))
 }

@@ -17,7 +17,7 @@ pub repeats-twice-requires : goal.repeats-twice-requires
 repeats-twice-requires c =
     let low = few c.args.image.layout c.args.image.bytes.now c.requires.1 in
     let k = c.loop-slot.invariant in
-    (omega (arith, low), k.1, k.2)
+    (omega (arith, c.args.image.long, c.args.image.right.directory_low, low), omega (arith, c.args.image.right.slots_few, low), k.1, k.2)
 
 pub bounds-report-slot : goal.bounds-report-slot
 bounds-report-slot c = omega (arith, few c.args.image.layout c.args.image.bytes.now c.requires.1, c.requires.0, c.loop-slot.invariant.0.size)

@@ -1,8 +1,8 @@
--- `slots::Head::hash_of` meets its contract: the hash is of the numbers of the name's two halves and the type.
+-- `slots::hash_of` meets its contract: the hash is of the numbers of the name's two halves and the type.
 -- By what the keys and the type are; a remainder is below its divisor. Assumes nothing.
 use Rattle.std.proofs.Common.{◌∙◌, arith}
 use Rattle.slots.specs.Lemmas.Hashes.{same_hash}
-use Rattle.slots.proofs.head.Head.hash_of.Goals as goal
+use Rattle.slots.proofs.hash_of.Goals as goal
 
 pub returns : goal.returns
 returns c =

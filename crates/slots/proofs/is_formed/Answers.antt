@@ -1,4 +1,4 @@
--- `slots::Head::is_formed` meets its contract: type, length, identity and the name's area are asked in turn, and the form is all four.
+-- `slots::is_formed` meets its contract: type, length, identity and the name's area are asked in turn, and the form is all four.
 -- By what each call answers of its part of the entry. Assumes nothing.
 use Rattle.std.proofs.Common.{◌≡◌, refl, sym, ap, ◌∙◌, Bool, true, false, not, List, ℕ, zero, suc, ◌+◌, ◌-◌, ◌≤◌, arith, length, take, drop, eqb, leb, le-leb, ne_eqb}
 use Rattle.image.specs.Image.{entry_at}
@@ -12,8 +12,8 @@ use Rattle.layout.specs.Layouts.{slot_offset}
 use Rattle.layout.specs.declared.Layout.{Layout}
 use Rattle.names.specs.Names.{legal_area, legal_type}
 use Rattle.view.specs.Disk.{Entry, formed}
-use Rattle.slots.proofs.head.Head.is_formed.Goals.{then-is_type, else-is_type, then-size_of-ne0, else-size_of-ne0}
-use Rattle.slots.proofs.head.Head.is_formed.Goals as goal
+use Rattle.slots.proofs.is_formed.Goals.{then-is_type, else-is_type, then-size_of-ne0, else-size_of-ne0}
+use Rattle.slots.proofs.is_formed.Goals as goal
 
 some_size : (n : ℕ) → leb 1 n ≡ not (eqb n 0)
 some_size zero = refl
@@ -42,33 +42,33 @@ lent-area l at from p h = let e : at + 16 - at ≡ 16 = omega arith in rw (p, e)
 pub is_area-requires : goal.is_area-requires
 is_area-requires c =
     let at = c.offset_of-at.result in
-    (c.args.self.right, omega (arith, length-lent c.args.self.bytes.now at (at + 16) (omega arith)))
+    (c.requires.0, omega (arith, length-lent c.args.head.now at (at + 16) (omega arith)))
 
-pub returns-then-identity_of-self : goal.returns-then-identity_of-self
+pub returns-then-identity_of-layout : goal.returns-then-identity_of-layout
 unfolding entry_at
-returns-then-identity_of-self c =
-    let l = c.args.self.layout in
-    let e = entry_at (bytes c.args.self.bytes.now) (slot_offset l c.args.slot) in
+returns-then-identity_of-layout c =
+    let l = c.args.layout in
+    let e = entry_at (bytes c.args.head.now) (slot_offset l c.args.slot) in
     elim c.if-size_of-ne0.branch [
       | then-size_of-ne0 w ↦
           elim c.if-is_type.branch [
             | then-is_type v ↦
                 let type : legal_type l e.type ≡ true = ap (legal_type l) (sym c.type_of.ensures) ∙ sym c.is_type.ensures ∙ v.if-is_type.true in
                 let size : not (eqb e.size 0) ≡ true = ap (λ n. not (eqb n 0)) (sym v.size_of.ensures) ∙ sym v.value-is ∙ w.if-size_of-ne0.true in
-                let own : eqb e.identity l.identity ≡ true = ap (λ n. eqb n l.identity) (sym w.identity_of.ensures) ∙ sym w.value-is ∙ c.if-identity_of-self.true in
+                let own : eqb e.identity l.identity ≡ true = ap (λ n. eqb n l.identity) (sym w.identity_of.ensures) ∙ sym w.value-is ∙ c.if-identity_of-layout.true in
                 let at = slot_offset l c.args.slot in
-                c.is_area.ensures ∙ ap (legal_area l) (lent-area c.args.self.bytes.now at c.offset_of-at.result c.offset_of-at.ensures.value (omega (arith, c.offset_of-at.ensures.within, c.offset_of-at.ensures.value))) ∙ sym (formed_asked l e ∙ rw (type, size, own) refl)
+                c.is_area.ensures ∙ ap (legal_area l) (lent-area c.args.head.now at c.offset_of-at.result c.offset_of-at.ensures (omega (arith, c.requires.1))) ∙ sym (formed_asked l e ∙ rw (type, size, own) refl)
             | else-is_type v ↦ absurd (clash (sym v.value-is ∙ w.if-size_of-ne0.true) v.if-is_type.false)
           ]
-      | else-size_of-ne0 w ↦ absurd (clash (sym w.value-is ∙ c.if-identity_of-self.true) w.if-size_of-ne0.false)
+      | else-size_of-ne0 w ↦ absurd (clash (sym w.value-is ∙ c.if-identity_of-layout.true) w.if-size_of-ne0.false)
     ]
 
-pub returns-else-identity_of-self : goal.returns-else-identity_of-self
+pub returns-else-identity_of-layout : goal.returns-else-identity_of-layout
 unfolding entry_at
-returns-else-identity_of-self c =
-    let l = c.args.self.layout in
-    let e = entry_at (bytes c.args.self.bytes.now) (slot_offset l c.args.slot) in
-    c.if-identity_of-self.false
+returns-else-identity_of-layout c =
+    let l = c.args.layout in
+    let e = entry_at (bytes c.args.head.now) (slot_offset l c.args.slot) in
+    c.if-identity_of-layout.false
     ∙ sym (formed_asked l e
     ∙ elim c.if-is_type.branch [
       | then-is_type v ↦
@@ -76,7 +76,7 @@ returns-else-identity_of-self c =
           let some : not (eqb e.size 0) ≡ c.if-is_type.value = ap (λ n. not (eqb n 0)) (sym v.size_of.ensures) ∙ sym v.value-is in
           elim c.if-size_of-ne0.branch [
             | then-size_of-ne0 w ↦
-                let own : eqb e.identity l.identity ≡ false = ap (λ n. eqb n l.identity) (sym w.identity_of.ensures) ∙ sym w.value-is ∙ c.if-identity_of-self.false in
+                let own : eqb e.identity l.identity ≡ false = ap (λ n. eqb n l.identity) (sym w.identity_of.ensures) ∙ sym w.value-is ∙ c.if-identity_of-layout.false in
                 rw (type, some, w.if-size_of-ne0.true, own) refl
             | else-size_of-ne0 w ↦ rw (type, some, w.if-size_of-ne0.false) refl
           ]
