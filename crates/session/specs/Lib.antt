@@ -1,4 +1,5 @@
 pub mod Script
+pub mod Replied
 pub mod Turns
 pub mod Replies
 pub mod Lemmas

@@ -1,12 +1,11 @@
 // A whole script of calls on one image: decoded from lent bytes, made in order, each answer and page written to its own part of a lent output.
 #![tactic(auto)]
 
-ghost use Rattle.std.specs.Prelude.{◌≡◌, ◌≤◌, length};
+ghost use Rattle.std.specs.Prelude.{◌≡◌, ◌≤◌, List, ℕ, length};
 ghost use Rattle.laws.specs.Splice.{splice, part};
-ghost use Rattle.record.specs.Record.{refused_by, paged};
-ghost use Rattle.rules.specs.Check.{call_of};
-ghost use Rattle.calls.specs.Answers.{found_of, paged_of, listed_of, removed_of, list_call, find_call, page_call, put_call, remove_call, name_in};
-ghost use Rattle.session.specs.Script.{fits, flag, reply_with, reply_of, reply_bytes, shown_by, after_entry, put_entry, named_entry, entered_by, entered, after_run, run_of};
+ghost use Rattle.record.specs.Record.{paged};
+ghost use Rattle.session.specs.Script.{fits, flag, reply_of, reply_bytes, put_entry, named_entry, entry_call, after_entry, entered, after_run, run_of};
+ghost use Rattle.session.specs.Replied.{replied, replied_by};
 
 use calls::{Entry, Piece};
 use laws::Refusal;
@@ -150,52 +149,6 @@ fn write_reply(shown: &mut [u8], reply: Reply)
     write_name(shown, name);
 }
 
-// Each call, with its reply and its page in its part of the output.
-fn make_list(image: &[u8], slot: usize, shown: &mut [u8])
-    requires { 1044 ≤ length shown.old }
-    ensures reply { shown.new ≡ shown_by shown.old (call_of image.now (list_call slot)) }
-    ensures image { image.now ≡ (call_of image.now (list_call slot)).state }
-{
-    let listed = calls::list(image, slot);
-    write_reply(shown, Reply::from(listed));
-}
-
-fn make_page(image: &[u8], slot: usize, offset: usize, shown: &mut [u8])
-    requires { 1044 ≤ length shown.old }
-    ensures reply { shown.new ≡ shown_by shown.old (call_of image.now (page_call slot offset (part shown.old 20 1024))) }
-    ensures image { image.now ≡ (call_of image.now (page_call slot offset (part shown.old 20 1024))).state }
-{
-    let paged = calls::page(image, slot, offset, &mut shown[20..1044]);
-    write_reply(shown, Reply::from(paged));
-}
-
-fn make_find(image: &[u8], name: &[u8], letter: u8, shown: &mut [u8])
-    requires { 1044 ≤ length shown.old }
-    ensures reply { shown.new ≡ shown_by shown.old (call_of image.now (find_call name.now letter)) }
-    ensures image { image.now ≡ (call_of image.now (find_call name.now letter)).state }
-{
-    let found = calls::find(image, name, letter);
-    write_reply(shown, Reply::from(found));
-}
-
-fn make_remove(image: &mut [u8], name: &[u8], letter: u8, shown: &mut [u8])
-    requires { 1044 ≤ length shown.old }
-    ensures reply { shown.new ≡ shown_by shown.old (call_of image.old (remove_call name.now letter)) }
-    ensures image { image.new ≡ (call_of image.old (remove_call name.now letter)).state }
-{
-    let removed = calls::remove(image, name, letter);
-    write_reply(shown, Reply::from(removed));
-}
-
-fn make_put(image: &mut [u8], name: &[u8], letter: u8, content: &[u8], shown: &mut [u8])
-    requires { 1044 ≤ length shown.old }
-    ensures reply { shown.new ≡ shown_by shown.old (call_of image.old (put_call name.now letter content.now)) }
-    ensures image { image.new ≡ (call_of image.old (put_call name.now letter content.now)).state }
-{
-    let found = calls::put(image, name, letter, content);
-    write_reply(shown, Reply::from(found));
-}
-
 // Whether n bytes from an offset on lie in as many as there are.
 fn is_in(size: usize, at: usize, n: usize) -> bool
     ensures { result ≡ fits size at n }
@@ -214,64 +167,74 @@ const REMOVE: u8 = 3;
 
 const PUT: u8 = 4;
 
-// Puts with a content from the pool, if it lies there.
-fn run_put(image: &mut [u8], name: &[u8], entry: &[u8], pool: &[u8], shown: &mut [u8]) -> bool
-    requires { (length entry.now ≡ 20) × (1044 ≤ length shown.old) }
-    ensures { after_entry result shown.new image.new ≡ entered_by (put_entry name.now entry.now pool.now) image.old shown.old }
+// Puts with a content from the pool, if it lies there. Only a page is written behind its reply.
+fn run_put(image: &mut [u8], name: &[u8], entry: &[u8; 20], pool: &[u8]) -> Option<Reply>
+    ensures { (shown : List ℕ) → replied result shown image.new ≡ replied_by (put_entry name.now entry.now pool.now) image.old shown }
 {
     let at = blocks::number::<4>(entry, 12);
     let size = blocks::number::<4>(entry, 16);
     if !is_in(pool.len(), at, size) {
-        return false;
+        return None;
     }
     let stop = at + size;
-    make_put(image, name, entry[1], &pool[at..stop], shown);
-    true
+    let found = calls::put(image, name, entry[1], &pool[at..stop]);
+    Some(Reply::from(found))
 }
 
 // A call that names a file.
-fn run_named(image: &mut [u8], name: &[u8], entry: &[u8], pool: &[u8], shown: &mut [u8]) -> bool
-    requires { (length entry.now ≡ 20) × (1044 ≤ length shown.old) }
-    ensures { after_entry result shown.new image.new ≡ entered_by (named_entry name.now entry.now pool.now) image.old shown.old }
+fn run_named(image: &mut [u8], name: &[u8], entry: &[u8; 20], pool: &[u8]) -> Option<Reply>
+    ensures { (shown : List ℕ) → replied result shown image.new ≡ replied_by (named_entry name.now entry.now pool.now) image.old shown }
 {
     match entry[0] {
         FIND => {
-            make_find(image, name, entry[1], shown);
-            true
+            let found = calls::find(image, name, entry[1]);
+            Some(Reply::from(found))
         }
         REMOVE => {
-            make_remove(image, name, entry[1], shown);
-            true
+            let removed = calls::remove(image, name, entry[1]);
+            Some(Reply::from(removed))
         }
-        PUT => run_put(image, name, entry, pool, shown),
-        _ => false,
+        PUT => run_put(image, name, entry, pool),
+        _ => None,
     }
 }
 
-// One entry: whether it is a call. If not, nothing is written.
-fn run_entry(image: &mut [u8], entry: &[u8], pool: &[u8], shown: &mut [u8]) -> bool
-    requires { (length entry.now ≡ 20) × (1044 ≤ length shown.old) }
-    ensures { after_entry result shown.new image.new ≡ entered image.old entry.now pool.now shown.old }
+// One entry's call: its reply, none if it is no call. A page is written behind the place of the reply.
+fn call_entry(image: &mut [u8], entry: &[u8; 20], pool: &[u8], shown: &mut [u8]) -> Option<Reply>
+    requires { 1044 ≤ length shown.old }
+    ensures { replied result shown.new image.new ≡ replied_by (entry_call entry.now pool.now (part shown.old 20 1024)) image.old shown.old }
 {
     let a = blocks::number::<4>(entry, 4);
     let b = blocks::number::<4>(entry, 8);
     match entry[0] {
         LIST => {
-            make_list(image, a, shown);
-            true
+            let listed = calls::list(image, a);
+            Some(Reply::from(listed))
         }
         PAGE => {
-            make_page(image, a, b, shown);
-            true
+            let paged = calls::page(image, a, b, &mut shown[20..1044]);
+            Some(Reply::from(paged))
         }
         _ => {
             if !is_in(pool.len(), a, b) {
-                return false;
+                return None;
             }
             let stop = a + b;
-            run_named(image, &pool[a..stop], entry, pool, shown)
+            run_named(image, &pool[a..stop], entry, pool)
         }
     }
+}
+
+// One entry: whether it is a call. If not, nothing is written.
+fn run_entry(image: &mut [u8], entry: &[u8; 20], pool: &[u8], shown: &mut [u8]) -> bool
+    requires { 1044 ≤ length shown.old }
+    ensures { after_entry result shown.new image.new ≡ entered image.old entry.now pool.now shown.old }
+{
+    let Some(reply) = call_entry(image, entry, pool, shown) else {
+        return false;
+    };
+    write_reply(shown, reply);
+    true
 }
 
 // Runs a script on an image, and says how many calls were made: it ends before the first entry that is no call, at the script's end, or where
@@ -279,13 +242,13 @@ fn run_entry(image: &mut [u8], entry: &[u8], pool: &[u8], shown: &mut [u8]) -> b
 pub fn run(image: &mut [u8], script: &[u8], pool: &[u8], out: &mut [u8]) -> usize
     ensures { after_run result out.new image.new ≡ run_of image.old script.now pool.now out.old }
 {
-    let n = (script.len() / 20).min(out.len() / 1044);
+    let (entries, _) = script.as_chunks::<20>();
+    let n = entries.len().min(out.len() / 1044);
     for k in 0..n {
-        let from = 20 * k;
-        let to = from + 20;
+        let entry = &entries[k];
         let at = 1044 * k;
         let end = at + 1044;
-        let made = run_entry(image, &script[from..to], pool, &mut out[at..end]);
+        let made = run_entry(image, entry, pool, &mut out[at..end]);
         if !made {
             return k;
         }
