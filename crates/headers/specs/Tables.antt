@@ -1,6 +1,9 @@
 -- The tables of the headers (source document 001, sections 3, 5 and 6), one row a line, offsets from 0: every row with a stated range, value or list of
 -- named values. Tune cents, the pitch law, vel zones used, and what is internal or unused may be any bytes (document 01, "The files"). Assumes nothing.
-use Rattle.std.specs.Prelude.{List, [], ◌∷◌, ℕ}
+use Rattle.std.specs.Prelude.{◌≡◌, refl, List, [], ◌∷◌, ◌++◌, ℕ, ◌-◌, ◌≤◌, take, drop}
+use Rattle.std.proofs.Common.{ap, ◌∙◌, arith}
+use Rattle.laws.specs.Scan.{Lowest}
+use Rattle.rows.specs.Rows.{rows_fault}
 use Rattle.rows.specs.declared.Row.{Row}
 use Rattle.rows.specs.declared.Row.TheVariants.{Only, From, Within, OrOff, OneOf, Name, Ascii, Zeros, AllFrom, AllWithin, Word, Past, WordsWithin, AtMost}
 use Rattle.headers.specs.declared.Table.{Table}
@@ -170,3 +173,43 @@ header_size Sample900 = 60
 header_size Sample1000 = 150
 header_size Program = 150
 header_size Keygroup = 150
+
+-- ---- the tables one after another
+
+unfoldable pub all_rows : List Row
+unfolding sample900_rows sample1000_rows program_rows keygroup_rows
+all_rows = sample900_rows ++ (sample1000_rows ++ (program_rows ++ keygroup_rows))
+
+-- where a table lies among all rows: from the first on, below the end
+pub record Part : Type 0 where
+  pub first : ℕ
+  pub end : ℕ
+
+abbrev pub part_of : Table → Part
+part_of Sample900 = record { first = 0; end = 8 }
+part_of Sample1000 = record { first = 8; end = 18 }
+part_of Program = record { first = 18; end = 64 }
+part_of Keygroup = record { first = 64; end = 131 }
+
+-- a table's part of all rows is the table
+part-rows : (table : Table) → take ((part_of table).end - (part_of table).first) (drop (part_of table).first all_rows) ≡ rows_of table
+unfolding all_rows rows_of
+part-rows Sample900 = refl
+part-rows Sample1000 = refl
+part-rows Program = refl
+part-rows Keygroup = refl
+
+within_all : (table : Table) → ((part_of table).first ≤ (part_of table).end) × ((part_of table).end ≤ 131)
+within_all Sample900 = (omega arith, omega arith)
+within_all Sample1000 = (omega arith, omega arith)
+within_all Program = (omega arith, omega arith)
+within_all Keygroup = (omega arith, omega arith)
+
+module _ (table : Table) {part : Part} (e : part ≡ part_of table) where
+  pub part-within : (part.first ≤ part.end) × (part.end ≤ 131)
+  part-within = rw e (within_all table)
+
+  pub part_fault_is : (header : List ℕ) (base : ℕ) {f : Lowest} → f ≡ rows_fault header base (take (part.end - part.first) (drop part.first all_rows))
+      → f ≡ rows_fault header base (rows_of table)
+  part_fault_is header base h =
+      h ∙ ap (λ (p : Part). rows_fault header base (take (p.end - p.first) (drop p.first all_rows))) e ∙ ap (rows_fault header base) (part-rows table)

@@ -1,8 +1,9 @@
 -- What the code finds, one test or call after another, is what the definitions of the faults and of the calls say.
 -- Each step is a rewriting by what the code has in hand. Assumes nothing.
-use Rattle.std.specs.Prelude.{◌≡◌, Option, MatchOption, pos, Bool, true, false, not, ◌&&◌, List, ◌++◌, ℕ, ◌+◌, ◌-◌, ◌≤◌, ◌<◌, ℤ, take, drop, Ok, Some, Err, None}
+use Rattle.std.specs.Prelude.{◌≡◌, Option, MatchOption, pos, Bool, true, false, not, ◌&&◌, List, ◌++◌, ℕ, ◌+◌, ◌-◌, ◌≤◌, ◌<◌, eqb, ℤ, take, drop, Ok, Some, Err, None}
 use Rattle.std.proofs.Math.Path.{refl, ap}
-use Rattle.std.proofs.Common.{sym, ◌∙◌, arith, length-drop, take_all, lt-ltb, le-ltb}
+use Rattle.std.proofs.Common.{sym, ◌∙◌, arith, length-drop, take_all, length-take-le, lt-ltb, le-ltb, eq-eqb, ne_eqb}
+use Rattle.std.proofs.Math.Bool.{not-not}
 use Rattle.std.proofs.Math.Nat.{sub-zero, zero-add}
 use Rattle.std.proofs.Math.ListN.{length}
 use Rattle.std.proofs.Math.Seq.{sets}
@@ -11,14 +12,17 @@ use Rattle.words.specs.Words.{holds}
 use Rattle.laws.specs.Truth.{both}
 use Rattle.laws.specs.Refusals.{refusal_at, Filled, filled, unless}
 use Rattle.laws.specs.Scan.{lowest, all, Lowest}
-use Rattle.laws.specs.Lemmas.Scan.{over_next, all_end, all→, →nowhere, lowest_is}
+use Rattle.laws.specs.Lemmas.Scan.{over_next, all_end, all_stop, all→, →nowhere, lowest_is}
 use Rattle.laws.specs.Splice.{splice, part}
 use Rattle.laws.specs.Lemmas.Splice.{splice-append}
 use Rattle.laws.specs.Reader.{bytes}
 use Rattle.blocks.specs.Numbers.{number}
+use Rattle.rows.specs.Rows.{rows_fault}
+use Rattle.headers.specs.Tables.{rows_of}
+use Rattle.headers.specs.declared.Table.{Table}
 use Rattle.samples.specs.declared.Sampler.{Sampler}
 use Rattle.samples.specs.declared.Sampler.TheVariants.{S900, S1000}
-use Rattle.samples.specs.Samples.{header_size, count_offset, data_size, count_in, file_size, packed, unpacked, header_of, words_of, file_fault, header_fault, is_short, is_outside, range_fault, room_fault, unpack_of, pack_of}
+use Rattle.samples.specs.Samples.{header_size, count_offset, table_of, data_size, is_whole, count_in, file_size, packed, unpacked, header_of, words_of, head_fault, file_fault, header_fault, is_short, is_outside, range_fault, room_fault, unpack_of, pack_of}
 use Rattle.samples.specs.Rules.{HeaderRules, file-accepted, header_accepted}
 
 -- the number of words lies inside the header
@@ -26,10 +30,50 @@ pub count-inside : (sampler : Sampler) → count_offset sampler + 4 ≤ header_s
 count-inside S900 = omega arith
 count-inside S1000 = omega arith
 
--- ---- the header of a file
+-- ---- the faults
+
+pub right_whole : (sampler : Sampler) (count : ℕ) (t : Bool) {w : Bool} → w ≡ is_whole sampler count → w ≡ true → t ≡ both (is_whole sampler count) t
+right_whole sampler count t e h = rw (sym e ∙ h) refl
+
+pub right_odd : (sampler : Sampler) (count : ℕ) (t : Bool) {w : Bool} → w ≡ is_whole sampler count → w ≡ false → false ≡ both (is_whole sampler count) t
+right_odd sampler count t e h = rw (sym e ∙ h) refl
+
+module _ (sampler : Sampler) (header : List ℕ) {right : Bool} where
+  pub head_right : {table : Table} {f : Lowest} → right ≡ true → table ≡ table_of sampler → f ≡ rows_fault header 0 (rows_of table) → f ≡ head_fault sampler header right
+  unfolding head_fault
+  head_right e p q = rw (e, q, p, head_fault) refl
+
+  pub head_wrong : {at : ℕ} → right ≡ false → at ≡ count_offset sampler → Some at ≡ head_fault sampler header right
+  unfolding head_fault
+  head_wrong e p = rw (e, p, head_fault) refl
 
 pub header_part : (sampler : Sampler) (file : List ℕ) {size : ℕ} → size ≡ header_size sampler → take (size - 0) file ≡ header_of sampler file
 header_part sampler file {size} e = rw (sub-zero size, e) refl
+
+module _ (sampler : Sampler) (file : List ℕ) {size : ℕ} (e : size ≡ header_size sampler) where
+  pub file_short : length file < size → Some 0 ≡ file_fault sampler file
+  unfolding file_fault
+  file_short h = rw (lt-ltb (length file) (header_size sampler) (rw e at h), file_fault) refl
+
+  pub header_length : size ≤ length file → length (take (size - 0) file) ≡ header_size sampler
+  header_length h = ap length (header_part sampler file e) ∙ length-take-le (header_size sampler) file (rw e at h)
+
+  pub file_head : {count due : ℕ} {right : Bool} {f : Lowest} → size ≤ length file → count ≡ number 4 (bytes (take (size - 0) file)) (count_offset sampler) → due ≡ data_size sampler count
+      → right ≡ both (is_whole sampler count) (eqb (length file) (size + due)) → f ≡ head_fault sampler (take (size - 0) file) right → f ≡ file_fault sampler file
+  unfolding file_fault
+  file_head h p q r z =
+      let k : header_size sampler ≤ length file = rw e at h in
+      rw (le-ltb (length file) (header_size sampler) k, file_fault, z, r, q, p, header_part sampler file e, e) refl
+
+module _ (sampler : Sampler) (header : List ℕ) (given : ℕ) {size : ℕ} (e : size ≡ header_size sampler) where
+  pub header_size_is : (length header ≡ size → ⊥) → Some 0 ≡ header_fault sampler header given
+  unfolding header_fault
+  header_size_is h = let k : length header ≡ header_size sampler → ⊥ = rw e at h in rw (ne_eqb (length header) (header_size sampler) k, header_fault) refl
+
+  pub header_head : {count : ℕ} {right : Bool} {f : Lowest} → length header ≡ size → count ≡ count_in sampler header → right ≡ both (is_whole sampler count) (eqb count given)
+      → f ≡ head_fault sampler header right → f ≡ header_fault sampler header given
+  unfolding header_fault
+  header_head h p r z = rw (eq-eqb (length header) (header_size sampler) (h ∙ e), header_fault, z, r, p) refl
 
 -- ---- the words' range
 
@@ -39,6 +83,10 @@ Passed f n i short = (i ≤ n) × (both short (all f i (n - i)) ≡ all f 0 n)
 
 pub passed_none : (f : ℕ → Bool) (n : ℕ) → Passed f n 0 true
 passed_none f n = (omega arith, rw (sub-zero n) refl)
+
+both_no : (t : Bool) → both t false ≡ false
+both_no true = refl
+both_no false = refl
 
 both_yes : (t : Bool) → both t true ≡ t
 both_yes true = refl
@@ -58,6 +106,9 @@ module _ (f : ℕ → Bool) (n i : ℕ) (short : Bool) (p : Passed f n i short) 
         both_and short b rest
             ∙ ap (both short) (ap (λ (t : Bool). both t rest) e ∙ sym (over_next (λ k r. both (f k) r) true i n h)) ∙ p.1,
       )
+
+  pub passed_not : i < n → not (f i) ≡ true → Passed f n (i + 1) false
+  passed_not h e = (omega arith, sym (both_no short) ∙ ap (both short) (sym (all_stop f i n h (sym (not-not (f i)) ∙ ap not e))) ∙ p.1)
 
   pub passed_all : n ≤ i → short ≡ all f 0 n
   passed_all h = sym (both_yes short) ∙ ap (both short) (sym (all_end f i n h)) ∙ p.1

@@ -9,9 +9,10 @@ use Rattle.laws.specs.Reader.{bytes}
 use Rattle.blocks.specs.Numbers.{Number, digits}
 use Rattle.laws.specs.Lemmas.Padded.{padded_nil}
 use Rattle.record.specs.Record.{Call, list, find, page, put, remove, Answer, Outcome}
+use Rattle.rules.specs.Check.{call_of}
 use Rattle.calls.specs.Answers.{listed_of, Lists, Listed, name_in}
 use Rattle.session.specs.declared.Reply.{Reply}
-use Rattle.session.specs.Script.{fits, put_entry, named_entry, entry_call, flag, reply_with, reply_of, reply_bytes, after_entry, Entered, entered_by, after_run, run_from}
+use Rattle.session.specs.Script.{fits, put_entry, named_entry, entry_call, flag, reply_with, reply_of, reply_bytes, shown_by, after_entry, Entered, entered_by, after_run, run_from}
 
 -- what fits ends within
 pub fits_end : (size at n : ℕ) → fits size at n ≡ true → at + n ≤ size
@@ -34,6 +35,19 @@ pub reply_written : (s : List ℕ) (r : Reply) {one two last : List ℕ} {end : 
     → end ≡ flag r.end → last ≡ splice (set (set two 6 r.letter) 7 end) 8 r.name → last ≡ splice s 0 (reply_bytes r)
 unfolding splice digits reply_bytes
 reply_written s r p q e l = rw (l, e, q, p) refl
+
+-- a reply over the part, and the page that was written before it
+pub shown_as : (shown : List ℕ) (o : Outcome (List ℕ)) {reply : Reply} {paged last : List ℕ} → reply ≡ reply_of o.answer → paged ≡ splice shown 20 o.output
+    → last ≡ splice paged 0 (reply_bytes reply) → last ≡ shown_by shown o
+shown_as shown o p q r = rw (r, q, p) refl
+
+-- an entry that is a call, and one that isn't
+pub made_as : (img shown : List ℕ) {x : Option Call} {c : Call} {last after : List ℕ} → x ≡ some c → last ≡ shown_by shown (call_of img c) → after ≡ (call_of img c).state
+    → after_entry true last after ≡ entered_by x img shown
+made_as img shown e p q = rw (e, p, q) refl
+
+pub ended_as : (img shown : List ℕ) {x : Option Call} → x ≡ none → after_entry false shown img ≡ entered_by x img shown
+ended_as img shown e = rw e refl
 
 -- ---- put
 
