@@ -76,7 +76,10 @@ fn unpaged(refusal: Refusal) -> Metered
 pub fn list(image: &[u8], slot: usize) -> Result<Entry, Refusal>
     ensures { Lists image.now (call_of image.now (list_call slot)) result }
 {
-    let Accepted { kind, density, .. } = disk::check(image)?;
+    let checked = disk::check(image);
+    let Ok(Accepted { kind, density, .. }) = checked else {
+        return Err(checked.unwrap_err());
+    };
     let layout = layout::layout_of(kind, density);
     Disk { image, layout }.list(slot)
 }
@@ -85,7 +88,10 @@ pub fn list(image: &[u8], slot: usize) -> Result<Entry, Refusal>
 pub fn find(image: &[u8], name: &[u8], letter: u8) -> Result<usize, Refusal>
     ensures { came (found_of result) [] image.now ≡ call_of image.now (find_call name.now letter) }
 {
-    let Accepted { kind, density, .. } = disk::check(image)?;
+    let checked = disk::check(image);
+    let Ok(Accepted { kind, density, .. }) = checked else {
+        return Err(checked.unwrap_err());
+    };
     let layout = layout::layout_of(kind, density);
     Disk { image, layout }.judge_name(name, letter)
 }
@@ -94,7 +100,10 @@ pub fn find(image: &[u8], name: &[u8], letter: u8) -> Result<usize, Refusal>
 pub fn page(image: &[u8], slot: usize, offset: usize, out: &mut [u8]) -> Result<Piece, Refusal>
     ensures { came (paged_of result) out.new image.now ≡ call_of image.now (page_call slot offset out.old) }
 {
-    let Accepted { kind, density, .. } = disk::check(image)?;
+    let checked = disk::check(image);
+    let Ok(Accepted { kind, density, .. }) = checked else {
+        return Err(checked.unwrap_err());
+    };
     let layout = layout::layout_of(kind, density);
     Disk { image, layout }.page(slot, offset, out).paged
 }
@@ -117,12 +126,16 @@ pub fn metered_page(image: &[u8], slot: usize, offset: usize, out: &mut [u8]) ->
 pub fn put(image: &mut [u8], name: &[u8], letter: u8, content: &[u8]) -> Result<usize, Refusal>
     ensures { came (found_of result) [] image.new ≡ call_of image.old (put_call name.now letter content.now) }
 {
-    let Accepted {
+    let checked = disk::check(image);
+    let Ok(Accepted {
         kind,
         density,
         free,
         ..
-    } = disk::check(image)?;
+    }) = checked
+    else {
+        return Err(checked.unwrap_err());
+    };
     let layout = layout::layout_of(kind, density);
     let slot = Disk { image, layout }.judge_put(free, name, letter, content.len())?;
     let area = names::area_of(layout, name);
@@ -134,7 +147,10 @@ pub fn put(image: &mut [u8], name: &[u8], letter: u8, content: &[u8]) -> Result<
 pub fn remove(image: &mut [u8], name: &[u8], letter: u8) -> Result<(), Refusal>
     ensures { came (removed_of result) [] image.new ≡ call_of image.old (remove_call name.now letter) }
 {
-    let Accepted { kind, density, .. } = disk::check(image)?;
+    let checked = disk::check(image);
+    let Ok(Accepted { kind, density, .. }) = checked else {
+        return Err(checked.unwrap_err());
+    };
     let layout = layout::layout_of(kind, density);
     let slot = Disk { image, layout }.judge_name(name, letter)?;
     changes::remove_slot(image, layout, slot);

@@ -1,21 +1,17 @@
 -- `calls::page` meets its contract: a refused image answers the check's refusal, an accepted one what the record says.
 -- The check's answer is taken apart, and the layout is that of its kind and density. Assumes nothing.
 use Rattle.std.proofs.Common.{◌∙◌}
-use Rattle.std.proofs.lemmas.Result.{err_from_is_err_and}
 use Rattle.calls.specs.Accepts.{accepted_by}
 use Rattle.calls.specs.Answers.{page_call}
 use Rattle.calls.specs.Lemmas.Answers.{call_refused}
 use Rattle.calls.specs.Lemmas.Done.{page-done}
 use Rattle.calls.proofs.page.Goals as goal
 
-pub returns-in_err-kind : goal.returns-in_err-kind
-returns-in_err-kind c =
-    let a = c.args in
-    let refused = err_from_is_err_and c.from_residual.result c.from_residual.ensures.1 in
-    rw (refused.1, refused.2) (call_refused _ (page_call a.slot a.offset a.out.now) c.check.ensures c.in_err-kind.was)
+pub returns-in_default : goal.returns-in_default
+returns-in_default c = call_refused _ (page_call c.args.slot c.args.offset c.args.out.now) c.check-checked.ensures c.unwrap_err.ensures
 
 pub invariant_of-page : goal.invariant_of-page
-invariant_of-page c = record { accepted = accepted_by _ c.check.ensures c.in_ok-kind.was c.layout_of-layout.ensures }
+invariant_of-page c = record { accepted = accepted_by _ c.check-checked.ensures c.in-Ok.is c.layout_of-layout.ensures }
 
 pub returns : goal.returns
-returns c = c.page.ensures.image_after ∙ page-done _ c.check.ensures c.in_ok-kind.was c.layout_of-layout.ensures c.args.slot c.args.offset _
+returns c = c.page.ensures.image_after ∙ page-done _ c.check-checked.ensures c.in-Ok.is c.layout_of-layout.ensures c.args.slot c.args.offset _

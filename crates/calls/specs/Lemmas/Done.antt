@@ -24,7 +24,7 @@ use Rattle.record.proofs.Lemmas.Update.{put_slot, content_some, remove_slot}
 use Rattle.rules.specs.Check.{came, check_of, call_of, Checked, accepting}
 use Rattle.rules.proofs.Accepts.{accepted-rules, accepted_counts}
 use Rattle.rules.specs.Lemmas.States.{step_list, step_find, step_put, step_remove, step_page}
-use Rattle.calls.specs.Answers.{found_of}
+use Rattle.calls.specs.Answers.{Found, found_of}
 use Rattle.calls.specs.Metered.{page_cost, cost_in}
 use Rattle.calls.specs.Lemmas.Answers.{call_accepted}
 use Rattle.calls.specs.Lemmas.Paging.{size_some}
@@ -76,6 +76,9 @@ module _ (img : List ℕ) {c : Checked} {k : Kind} {d : Density} {f n : ℕ} (ch
 
     pub put_refused : {w : Refusal} → j ≡ Err w → came (refused_by w) [] img ≡ call_of img (put name type content)
     put_refused e = rw e at put_is
+
+    pub put_found : {w : Refusal} {r : Found} → j ≡ Err w → r ≡ j → came (found_of r) [] img ≡ call_of img (put name type content)
+    put_found e t = rw (t, e) (put_refused e)
 
     pub put_granted : {s : ℕ} {after : List ℕ} → j ≡ Ok s → after ≡ put_image l img s name type content → came (valued s) [] after ≡ call_of img (put name type content)
     put_granted e t = rw t (rw e at put_is)

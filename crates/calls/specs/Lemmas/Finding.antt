@@ -93,10 +93,10 @@ module _ (l : Layout) (files : Files) (name : List ℕ) (type : ℕ) where
   judge_illegal e = sym (order_illegal l files name type e)
 
   module _ (legal : is_legal l name type ≡ true) {r : Lowest} (slot : r ≡ slot_of l files name type) where
-    judge_found : {s : ℕ} → r ≡ Some s → Ok s ≡ judge_name l files name type
+    pub judge_found : {s : ℕ} → r ≡ Some s → Ok s ≡ judge_name l files name type
     judge_found e = sym (order_found l files name type legal (sym slot ∙ e))
 
-    judge_none : r ≡ None → refuse 10 0 ≡ judge_name l files name type
+    pub judge_none : r ≡ None → refuse 10 0 ≡ judge_name l files name type
     judge_none e = sym (order_missing l files name type legal (sym slot ∙ e))
 
     -- both at once

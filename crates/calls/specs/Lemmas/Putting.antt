@@ -52,7 +52,7 @@ module _ (l : Layout) (right : LayoutRight l) (img : List ℕ) (rules : DiskRule
             lowest_cong (λ s. is_empty (files_in l img s)) (λ s. not (used ((view_of l (bytes img)).entry s))) 0 l.slots
             (λ s p q. empty_used l (view_of l (bytes img)) s (omega arith)) ∙ sym found
 
-        put_full : empty ≡ None → refuse 14 0 ≡ judge_put l (files_in l img) name type content
+        pub put_full : empty ≡ None → refuse 14 0 ≡ judge_put l (files_in l img) name type content
         put_full e = sym (order_full l (files_in l img) name type content legal nonzero (sym slot ∙ new) (empty_slot_is ∙ e))
 
         -- the slot asked for, or its refusal

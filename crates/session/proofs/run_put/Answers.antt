@@ -1,6 +1,8 @@
 -- `session::run_put` meets its contract: a content that lies in the pool is put, any other is no call.
--- By the test on the content's place. Assumes nothing.
+-- By the test on the content's place; what put promises is taken as calls/specs/Made.antt has it. Assumes nothing.
 use Rattle.std.proofs.Common.{sym, ◌∙◌}
+use Rattle.std.specs.Prelude.{get_or}
+use Rattle.calls.specs.Made.{PutMade}
 use Rattle.session.specs.Lemmas.Entries.{put_some, put_none}
 use Rattle.session.specs.Replied.{unreplied, replied_alone}
 use Rattle.session.proofs.run_put.Goals as goal
@@ -12,5 +14,7 @@ returns-then-not-is_in c =
 
 pub returns : goal.returns
 returns c =
+    let a = c.args in
     let fit = sym c.is_in.ensures ∙ c.if-not-is_in.false in
-    replied_alone c.args.image.now (put_some c.args.name.now c.args.entry.now c.args.pool.now _ _ c.number-at.ensures c.number-size.ensures fit) c.from.ensures c.put-found.ensures
+    let made : PutMade a.image.now a.name.now (get_or a.entry.now 1 0) _ c.put-found.result _ = c.put-found.ensures in
+    replied_alone a.image.now (put_some a.name.now a.entry.now a.pool.now _ _ c.number-at.ensures c.number-size.ensures fit) c.from.ensures made
