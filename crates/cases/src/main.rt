@@ -93,6 +93,8 @@ fn mend(output: Stdout, image: &mut [u8], text: &[u8]) -> io::Result<()> {
 }
 
 // Runs one line, and gives the image's length after it. What is asked and mended are the image's first bytes, as many as it has.
+// Always inlined, so that the stack for the largest page is made ready once and not at each line.
+#[inline(always)]
 fn command(output: Stdout, image: &mut Image, length: usize, text: &[u8]) -> io::Result<usize> {
     let after = store(image, length, text);
     if after <= image.len() {
