@@ -1,11 +1,12 @@
 // The map of an image's head: refusals 3 and 6 to 9, and the free blocks counted.
-// Only the check and the salvage run call these; that directory and map lie in the head is told by its type.
+// Only the check and the salvage run call these; that directory and map lie in the head is told by its type, or asked where a page names the function.
 #![tactic(auto)]
 
 ghost use Rattle.std.specs.Prelude.{◌≡◌, false, ◌+◌, ◌-◌, ◌≤◌, ◌<◌, length, get_or, replicate, None};
 ghost use Rattle.laws.specs.Reader.{bytes};
 ghost use Rattle.laws.specs.Scan.{lowest, count};
-ghost use Rattle.layout.specs.Layouts.{slot_offset};
+ghost use Rattle.layout.specs.Layouts.{block_offset, slot_offset};
+ghost use Rattle.layout.specs.Right.{LayoutRight};
 ghost use Rattle.blocks.specs.Blocks.{links_for};
 ghost use Rattle.map.specs.Map.{map_at, free_count, Marks};
 ghost use Rattle.view.specs.Disk.{owned};
@@ -174,9 +175,15 @@ fn stray_block(head: Head, marks: &[bool; 1600], marked: usize, free: usize) -> 
 }
 
 // Refusals 6 to 9: the chains, then what they share, then blocks on none of them; else the number of free blocks, which the last step counts.
-pub fn chain_rules(head: Head) -> Result<usize, Refusal>
-    ensures { result ≡ or_free (chain_rules head.entry.layout (view_of head.entry.layout (bytes head.entry.bytes.now))) (free_count head.entry.layout (map_at (bytes head.entry.bytes.now))) }
+// docs/DECISIONS.md names it, so it takes any slice that is long enough, and makes the head itself.
+pub fn chain_rules(head: &[u8], layout: layout::Layout) -> Result<usize, Refusal>
+    requires { LayoutRight layout × (block_offset layout.first ≤ length head.now) }
+    ensures { result ≡ or_free (chain_rules layout (view_of layout (bytes head.now))) (free_count layout (map_at (bytes head.now))) }
 {
+    let head = Head {
+        bytes: head,
+        layout,
+    };
     let mut marks = [false; 1600];
     chain_fault(head, &mut marks)?;
     let marked = count_marked(head, &marks);

@@ -37,7 +37,7 @@ fn check_names(head: Head, kind: Kind, density: Density, files: usize) -> Result
     if let Some(slot) = head.name_fault() {
         return Err(Refusal::RepeatedName(slot));
     }
-    let free = chains::chain_rules(head)?;
+    let free = chains::chain_rules(head.bytes, head.layout)?;
     Ok(Accepted {
         kind,
         density,

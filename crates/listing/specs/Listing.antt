@@ -35,8 +35,12 @@ abbrev pub or_refused : Option Refusal → (Refusal → List ℕ) → List ℕ �
 or_refused none refused given = given
 or_refused (some r) refused given = refused r
 
+-- A refusal's text by its number and its place, whichever they are.
+abbrev pub refusal_text : ℕ → ℕ → List ℕ
+refusal_text number place = numbered "refused " number ++ numbered " at " place
+
 abbrev pub refused_text : Refusal → List ℕ
-refused_text r = numbered "refused " (number_of r) ++ numbered " at " (place_of r)
+refused_text r = refusal_text (number_of r) (place_of r)
 
 abbrev pub density_word : ℕ → List ℕ
 density_word density = pick (eqb density 0) (ascii " low") (ascii " high")

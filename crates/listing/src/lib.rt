@@ -1,7 +1,8 @@
 // The listing program (document 01): reads an image on standard input, and writes what it holds or why it is refused.
 // `lines` makes all of the text in a lent output, where a promise says what it is; `run` alone reads and writes.
 // The functions that put a part of it say which text they put, and where the next one goes; outside, only `cases` calls them.
-// Output and index stay apart: the public ones of them (`put_refused`, `put_checked`, `put_file`) promise `Puts` of the index given and of the next.
+// Output and index stay apart: the public ones of them (`put_refusal`, `put_refused`, `put_checked`, `put_file`) promise `Puts` of the index given
+// and of the next.
 #![tactic(auto)]
 
 ghost use Rattle.std.specs.Prelude.{◌≡◌, ◌++◌, ◌+◌, ◌≤◌, ◌<◌, length, IfOk, OnErr};
@@ -9,7 +10,7 @@ ghost use Rattle.io.specs.Counts.{IsPrefixLen};
 ghost use Rattle.laws.specs.Reader.{bytes};
 ghost use Rattle.record.specs.Record.{density_number, entry};
 ghost use Rattle.rules.specs.Check.{answer_of};
-ghost use Rattle.listing.specs.Listing.{decimal, density_word, refused_text, check_text, letter_of, file_line, slot_line, slot_lines};
+ghost use Rattle.listing.specs.Listing.{decimal, density_word, refusal_text, refused_text, check_text, letter_of, file_line, slot_line, slot_lines};
 ghost use Rattle.listing.specs.Lines.{slot_answer, lines_of};
 ghost use Rattle.listing.specs.Puts.{Puts, Fills};
 
@@ -83,13 +84,21 @@ fn put_number(word: &[u8], number: usize, out: &mut [u8; 24576], at: usize) -> u
     put(&digits[0..count], out, next)
 }
 
+// A refusal that is known by its number and its place alone, as C's results tell it, without its line's end. Both may be any.
+pub fn put_refusal(number: u32, place: usize, out: &mut [u8; 24576], at: usize) -> usize
+    requires { at ≤ 24576 }
+    ensures { Puts 52 (refusal_text number place) at out.old out.new result }
+{
+    let next = put_number(b"refused ", number as usize, out, at);
+    put_number(b" at ", place, out, next)
+}
+
 // A refusal, without its line's end.
 pub fn put_refused(refusal: Refusal, out: &mut [u8; 24576], at: usize) -> usize
     requires { at ≤ 24576 }
     ensures { Puts 52 (refused_text refusal) at out.old out.new result }
 {
-    let next = put_number(b"refused ", refusal.number() as usize, out, at);
-    put_number(b" at ", refusal.place(), out, next)
+    put_refusal(refusal.number(), refusal.place(), out, at)
 }
 
 fn put_density(density: layout::Density, out: &mut [u8; 24576], at: usize) -> usize

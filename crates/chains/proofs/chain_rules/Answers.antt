@@ -14,7 +14,7 @@ returns-in_err-chain_fault c =
 pub shared_slot-shared-requires : goal.shared_slot-shared-requires
 shared_slot-shared-requires c =
     let passed = c.in_ok-chain_fault.was in
-    (chain_clean _ _ c.chain_fault.ensures.fault passed, c.count_marked-marked.ensures ∙ marks_taken _ c.args.head.right _ _ (c.chain_fault.ensures.marks_all passed))
+    (chain_clean _ _ c.chain_fault.ensures.fault passed, c.count_marked-marked.ensures ∙ marks_taken _ c.requires.0 _ _ (c.chain_fault.ensures.marks_all passed))
 
 pub returns-in-Some : goal.returns-in-Some
 returns-in-Some c = chain_shared _ _ _ (chain_clean _ _ c.chain_fault.ensures.fault c.in_ok-chain_fault.was) c.shared_slot-shared.ensures c.in-Some.is
@@ -23,7 +23,7 @@ pub stray_block-stray-requires : goal.stray_block-stray-requires
 stray_block-stray-requires c =
     let passed = c.in_ok-chain_fault.was in
     let marks = c.chain_fault.ensures.marks_all passed in
-    (chain_clean _ _ c.chain_fault.ensures.fault passed, c.count_marked-marked.ensures ∙ marks_taken _ c.args.head.right _ _ marks, c.count_free-free.ensures, marks)
+    (chain_clean _ _ c.chain_fault.ensures.fault passed, c.count_marked-marked.ensures ∙ marks_taken _ c.requires.0 _ _ marks, c.count_free-free.ensures, marks)
 
 pub returns-in-Some-stray : goal.returns-in-Some-stray
 returns-in-Some-stray c =
