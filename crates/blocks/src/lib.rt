@@ -33,12 +33,23 @@ pub fn store<const N: usize>(target: &mut [u8], at: usize, value: usize)
     }
 }
 
+// Copies bytes over as many others. By a loop, since the compiler makes a copy of parts that don't overlap of it: the library's method makes one of any two,
+// and the archive would need `memmove` of whoever links it.
+fn copy_run(target: &mut [u8], source: &[u8])
+    requires { length target.old ≡ length source.now }
+    ensures { target.new ≡ source.now }
+{
+    for i in 0..source.len() {
+        target[i] = source[i];
+    }
+}
+
 // Copies n bytes of the source into a part of the target.
 pub fn copy_part(source: &[u8], from: usize, target: &mut [u8], at: usize, n: usize)
     requires { (from + n ≤ length source.now) × (at + n ≤ length target.old) }
     ensures { target.new ≡ splice target.old at (part source.now from n) }
 {
-    target[at..at + n].copy_from_slice(&source[from..from + n]);
+    copy_run(&mut target[at..at + n], &source[from..from + n]);
 }
 
 // Sets n bytes from an offset on to zero.
@@ -55,6 +66,6 @@ pub fn write_block(block: &mut [u8], content: &[u8])
     ensures { block.new ≡ padded content.now (length block.old) }
 {
     let n = content.len();
-    block[..n].copy_from_slice(content);
+    copy_run(&mut block[..n], content);
     block[n..].fill(0);
 }

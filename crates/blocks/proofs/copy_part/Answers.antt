@@ -6,4 +6,4 @@ use Rattle.blocks.proofs.copy_part.Goals as goal
 pub returns : goal.returns
 returns c =
     let a = c.args in
-    copy_back a.target.now a.at a.n a.source.now a.from (omega arith) (omega arith) c.copy_from_slice.ensures.after
+    copy_back a.target.now a.at a.n a.source.now a.from (omega arith) (omega arith) c.copy_run.ensures

@@ -23,7 +23,7 @@ zeros_after block content m h front rest =
 
 pub returns : goal.returns
 returns c =
-    let front = c.copy_from_slice.ensures.after in
+    let front = c.copy_run.ensures in
     let b = c.args.block.now in
     let n = length c.args.content.now in
     zeros_after b c.args.content.now _ c.requires (ap (λ (l : List ℕ). l ++ drop n b) front) (c.fill.ensures.after (λ y e. e))
