@@ -1,7 +1,8 @@
 // Blocks that a function collects: an array, since nothing here takes memory from a heap.
 ghost use Rattle.std.specs.Prelude.{◌≡◌, ◌≤◌, take};
 
-// The first `count` of the list. At 3,208 bytes it is moved and never copied.
+// The first `count` of the list. At 3,208 bytes it is moved and never copied, and filled where it lies: an array that is moved into it would lie on the stack
+// beside it.
 #[derive(Drop)]
 pub struct Blocks {
     pub list: [u16; 1600],

@@ -73,15 +73,17 @@ pub fn chain_blocks(image: &[u8], layout: layout::Layout, links: usize, start: u
     requires { Fits layout image.now × LayoutRight layout × Chained layout (map_at (bytes image.now)) links start }
     ensures { Collected (chain (map_at (bytes image.now)) links start) result }
 {
-    let mut list = [0u16; 1600];
+    let mut blocks = Blocks {
+        list: [0; 1600],
+        count: links + 1,
+    };
     let mut block = start;
     for k in 0..links {
-        list[k] = block as u16;
+        blocks.list[k] = block as u16;
         block = map_at(image, block);
     }
-    list[links] = block as u16;
-    let count = links + 1;
-    Blocks { list, count }
+    blocks.list[links] = block as u16;
+    blocks
 }
 
 // As many free blocks as wanted, or all there are: the lowest, in rising order.
@@ -89,18 +91,20 @@ pub fn free_blocks(image: &[u8], layout: layout::Layout, wanted: usize) -> Block
     requires { Fits layout image.now × LayoutRight layout }
     ensures { Collected (take wanted (free_blocks layout (map_at (bytes image.now)))) result }
 {
-    let mut list = [0u16; 1600];
-    let mut count = 0;
+    let mut blocks = Blocks {
+        list: [0; 1600],
+        count: 0,
+    };
     for block in layout.first..layout.blocks {
-        if count == wanted {
+        if blocks.count == wanted {
             break;
         }
         if map_at(image, block) == 0 {
-            list[count] = block as u16;
-            count += 1;
+            blocks.list[blocks.count] = block as u16;
+            blocks.count += 1;
         }
     }
-    Blocks { list, count }
+    blocks
 }
 
 // The k-th of some blocks, which are all below an end.

@@ -17,16 +17,16 @@ short l m links start right h = omega (arith, right.blocks_most, chain_short l r
 pub loop-k-init : goal.loop-k-init
 loop-k-init c =
     let e : c.args.links - 0 ≡ c.args.links = omega arith in
-    (nth_first _ _ _, collect_none _ _ (rw e))
+    (nth_first _ _ _, refl, collect_none _ _ (rw e))
 
-pub overflow_cast-list : goal.overflow_cast-list
-overflow_cast-list c = omega (arith, (nth_data c.args.layout (map_at (bytes c.args.image.now)) c.args.links c.args.start c.loop-k.k c.requires.2 (omega arith) c.loop-k.invariant.0).1, c.requires.1.blocks_most)
+pub overflow_cast-blocks : goal.overflow_cast-blocks
+overflow_cast-blocks c = omega (arith, (nth_data c.args.layout (map_at (bytes c.args.image.now)) c.args.links c.args.start c.loop-k.k c.requires.2 (omega arith) c.loop-k.invariant.0).1, c.requires.1.blocks_most)
 
-pub bounds-list-k : goal.bounds-list-k
-bounds-list-k c = omega (arith, short c.args.layout (map_at (bytes c.args.image.now)) c.args.links c.args.start c.requires.1 c.requires.2)
+pub bounds-blocks-k : goal.bounds-blocks-k
+bounds-blocks-k c = omega (arith, short c.args.layout (map_at (bytes c.args.image.now)) c.args.links c.args.start c.requires.1 c.requires.2)
 
-pub offset_bounds-list-k : goal.offset_bounds-list-k
-offset_bounds-list-k c = omega (arith, short c.args.layout (map_at (bytes c.args.image.now)) c.args.links c.args.start c.requires.1 c.requires.2)
+pub offset_bounds-blocks-k : goal.offset_bounds-blocks-k
+offset_bounds-blocks-k c = omega (arith, short c.args.layout (map_at (bytes c.args.image.now)) c.args.links c.args.start c.requires.1 c.requires.2)
 
 pub map_at-block-requires : goal.map_at-block-requires
 map_at-block-requires c = omega (arith, (nth_data c.args.layout (map_at (bytes c.args.image.now)) c.args.links c.args.start c.loop-k.k c.requires.2 (omega arith) c.loop-k.invariant.0).1)
@@ -38,23 +38,24 @@ loop-k-preserved c =
     let m = map_at (bytes a.image.now) in
     let rest = chain-turn m a.links l.k l.block c.map_at-block.result c.map_at-block.ensures (omega arith) in (
       nth_next m a.links a.start l.k l.invariant.0 c.map_at-block.ensures (omega arith) refl,
-      collect_one l.list l.k l.block rest l.invariant.1,
+      l.invariant.1,
+      collect_one l.blocks.0 l.k l.block rest l.invariant.2,
     )
 
-pub overflow_cast-list-2 : goal.overflow_cast-list-2
-overflow_cast-list-2 c = omega (arith, (nth_data c.args.layout (map_at (bytes c.args.image.now)) c.args.links c.args.start c.loop-k.k c.requires.2 (omega arith) c.loop-k.invariant.0).1, c.requires.1.blocks_most)
+pub overflow_cast-blocks-2 : goal.overflow_cast-blocks-2
+overflow_cast-blocks-2 c = omega (arith, (nth_data c.args.layout (map_at (bytes c.args.image.now)) c.args.links c.args.start c.loop-k.k c.requires.2 (omega arith) c.loop-k.invariant.0).1, c.requires.1.blocks_most)
 
-pub bounds-list-links : goal.bounds-list-links
-bounds-list-links c = short c.args.layout (map_at (bytes c.args.image.now)) c.args.links c.args.start c.requires.1 c.requires.2
+pub bounds-blocks-links : goal.bounds-blocks-links
+bounds-blocks-links c = short c.args.layout (map_at (bytes c.args.image.now)) c.args.links c.args.start c.requires.1 c.requires.2
 
-pub offset_bounds-list-links : goal.offset_bounds-list-links
-offset_bounds-list-links c = omega (arith, short c.args.layout (map_at (bytes c.args.image.now)) c.args.links c.args.start c.requires.1 c.requires.2)
+pub offset_bounds-blocks-links : goal.offset_bounds-blocks-links
+offset_bounds-blocks-links c = omega (arith, short c.args.layout (map_at (bytes c.args.image.now)) c.args.links c.args.start c.requires.1 c.requires.2)
 
-pub overflow_add-count : goal.overflow_add-count
-overflow_add-count c = omega (arith, short c.args.layout (map_at (bytes c.args.image.now)) c.args.links c.args.start c.requires.1 c.requires.2)
+pub overflow_add-blocks : goal.overflow_add-blocks
+overflow_add-blocks c = omega (arith, short c.args.layout (map_at (bytes c.args.image.now)) c.args.links c.args.start c.requires.1 c.requires.2)
 
-pub invariant_of-result : goal.invariant_of-result
-invariant_of-result c = record { few = omega (arith, short c.args.layout (map_at (bytes c.args.image.now)) c.args.links c.args.start c.requires.1 c.requires.2) }
+pub invariant_of-blocks : goal.invariant_of-blocks
+invariant_of-blocks c = record { few = omega (arith, short c.args.layout (map_at (bytes c.args.image.now)) c.args.links c.args.start c.requires.1 c.requires.2) }
 
 pub returns : goal.returns
 returns c =
@@ -62,4 +63,4 @@ returns c =
     let a = c.args in
     let rest = chain_last (map_at (bytes a.image.now)) (a.links - l.k) l.block (omega arith) in
     let z : l.k ≡ a.links = omega arith in
-    collect_end _ (omega (arith, short c.args.layout (map_at (bytes c.args.image.now)) c.args.links c.args.start c.requires.1 c.requires.2)) refl (rw z at (collect_one l.list l.k l.block rest l.invariant.1))
+    collect_end _ (omega (arith, short c.args.layout (map_at (bytes c.args.image.now)) c.args.links c.args.start c.requires.1 c.requires.2)) refl (rw (z, ← l.invariant.1) at (collect_one l.blocks.0 l.k l.block rest l.invariant.2))

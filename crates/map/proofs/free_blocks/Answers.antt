@@ -5,7 +5,7 @@ use Rattle.laws.specs.Reader.{bytes}
 use Rattle.map.specs.Lemmas.Collect.{collect_one, collect_end, wanted_end, wanted_full}
 use Rattle.map.proofs.Lemmas.Collect.{wanted_stop, wanted_on}
 use Rattle.map.specs.Map.{map_at, free_blocks, free_from}
-use Rattle.map.proofs.free_blocks.Goals.{then-map_at-eq0, else-map_at-eq0, else-loop-block-test, then-loop-block-test+then-count-wanted}
+use Rattle.map.proofs.free_blocks.Goals.{then-map_at-eq0, else-map_at-eq0, else-loop-block-test, then-loop-block-test+then-blocks-wanted}
 use Rattle.map.proofs.free_blocks.Goals as goal
 
 pub loop-block-preserved : goal.loop-block-preserved
@@ -15,20 +15,14 @@ loop-block-preserved c =
     let m = map_at (bytes a.image.now) in
     let end = a.layout.blocks in
     let value = c.map_at.ensures in
-    let more : l.count < a.wanted = omega arith in
+    let more : l.blocks.1.0 < a.wanted = omega arith in
     elim c.if-map_at-eq0.branch [
       | then-map_at-eq0 w ↦
-          let rest = wanted_stop m l.block end l.count a.wanted (omega arith) more (sym value ∙ w.if-map_at-eq0.true) in (
-            omega arith,
-            omega arith,
-            rw (w.list-is, w.count-is) (collect_one l.list l.count l.block rest l.invariant.2),
-          )
+          let rest = wanted_stop m l.block end l.blocks.1.0 a.wanted (omega arith) more (sym value ∙ w.if-map_at-eq0.true) in
+          rw w.blocks-is (omega arith, omega arith, collect_one l.blocks.0 l.blocks.1.0 l.block rest l.invariant.2)
       | else-map_at-eq0 w ↦
-          let rest = wanted_on m l.block end l.count a.wanted (omega arith) (λ z. w.if-map_at-eq0.false (value ∙ z)) in (
-            omega arith,
-            omega arith,
-            rw (w.list-is, w.count-is, ← rest) l.invariant.2,
-          )
+          let rest = wanted_on m l.block end l.blocks.1.0 a.wanted (omega arith) (λ z. w.if-map_at-eq0.false (value ∙ z)) in
+          rw (w.blocks-is, ← rest) (omega arith, omega arith, l.invariant.2)
     ]
 
 pub returns : goal.returns
@@ -36,9 +30,9 @@ unfolding free_blocks
 returns c =
     let l = c.loop-block in
     let m = map_at (bytes c.args.image.now) in
-    let none : take (c.args.wanted - l.count) (free_from m l.block (c.args.layout.blocks - l.block)) ≡ [] =
+    let none : take (c.args.wanted - l.blocks.1.0) (free_from m l.block (c.args.layout.blocks - l.block)) ≡ [] =
     elim c.loop-block-test.branch [
-      | else-loop-block-test w ↦ wanted_end m l.block c.args.layout.blocks l.count c.args.wanted (omega arith)
-      | then-loop-block-test+then-count-wanted w ↦ wanted_full m l.block c.args.layout.blocks l.count c.args.wanted (omega arith)
+      | else-loop-block-test w ↦ wanted_end m l.block c.args.layout.blocks l.blocks.1.0 c.args.wanted (omega arith)
+      | then-loop-block-test+then-blocks-wanted w ↦ wanted_full m l.block c.args.layout.blocks l.blocks.1.0 c.args.wanted (omega arith)
     ] in
     collect_end _ (omega (arith, c.requires.1.blocks_most)) none l.invariant.2
