@@ -175,7 +175,9 @@ fn stray_block(head: Head, marks: &[bool; 1600], marked: usize, free: usize) -> 
 }
 
 // Refusals 6 to 9: the chains, then what they share, then blocks on none of them; else the number of free blocks, which the last step counts.
-// docs/DECISIONS.md names it, so it takes any slice that is long enough, and makes the head itself.
+// docs/DECISIONS.md names it, so it takes any slice that is long enough, and makes the head itself. Never inlined, as `slots::name_fault`: each takes some 3 KB
+// of the stack, in turn.
+#[inline(never)]
 pub fn chain_rules(head: &[u8], layout: layout::Layout) -> Result<usize, Refusal>
     requires { LayoutRight layout × (block_offset layout.first ≤ length head.now) }
     ensures { result ≡ or_free (chain_rules layout (view_of layout (bytes head.now))) (free_count layout (map_at (bytes head.now))) }

@@ -258,7 +258,7 @@ impl Table {
 }
 
 // The lowest slot whose name and type stand in a lower used slot (refusal 5), by a table of hashes.
-// Never inlined, so that the table and the check's marks of blocks don't lie on the stack at once.
+// Never inlined, so that the table and the marks of `chains::chain_rules` don't lie on the stack at once.
 #[inline(never)]
 pub fn name_fault(head: &[u8], layout: layout::Layout) -> Option<usize>
     requires { LayoutRight layout × (slot_offset layout layout.slots ≤ length head.now) }
