@@ -127,12 +127,14 @@ pub fn put(image: &mut [u8], name: &[u8], letter: u8, content: &[u8]) -> Result<
     ensures { came (found_of result) [] image.new ≡ call_of image.old (put_call name.now letter content.now) }
 {
     let checked = disk::check(image);
-    let Ok(Accepted {
-        kind,
-        density,
-        free,
-        ..
-    }) = checked
+    let Ok(
+        Accepted {
+            kind,
+            density,
+            free,
+            ..
+        },
+    ) = checked
     else {
         return Err(checked.unwrap_err());
     };
