@@ -1,6 +1,7 @@
 // Answers on standard output: the listing program's functions make their text, and it is written here.
 use calls::Entry;
 use laws::Refusal;
+use listing::Reason;
 use rules::Accepted;
 use std::io;
 use std::io::Print;
@@ -28,7 +29,7 @@ fn first(output: Stdout, out: &[u8], count: usize) -> io::Result<()> {
 // A refusal, without its line's end.
 pub(crate) fn refusal(output: Stdout, answer: Refusal) -> io::Result<()> {
     let mut out = [0u8; 24576];
-    let count = listing::put_refused(answer, &mut out, 0);
+    let count = listing::put_refused(Reason::from(answer), &mut out, 0);
     first(output, &out, count)
 }
 
@@ -41,7 +42,7 @@ pub(crate) fn refused(output: Stdout, answer: Refusal) -> io::Result<()> {
 // The line of the check's answer.
 pub(crate) fn checked(output: Stdout, answer: Result<Accepted, Refusal>) -> io::Result<()> {
     let mut out = [0u8; 24576];
-    let count = listing::put_checked(answer, &mut out, 0);
+    let count = listing::put_checked(listing::told(answer), &mut out, 0);
     first(output, &out, count)?;
     line_end(output)
 }

@@ -1,6 +1,6 @@
 -- The listing program's lines (document 01, "The listing program") as a function of the answers of the check and of list.
 -- Each line ends with one line feed; an empty slot has none. Assumes nothing.
-use Rattle.std.specs.Prelude.{◌≡◌, refl, List, [], ◌∷◌, ◌++◌, ℕ, zero, suc, ◌-◌, ◌/◌, ◌%◌, ltb, eqb}
+use Rattle.std.specs.Prelude.{◌≡◌, refl, List, [], ◌∷◌, ◌++◌, ℕ, zero, suc, ◌-◌, ◌/◌, ◌%◌, ltb, eqb, Result, Ok, Err}
 use Rattle.std.proofs.Math.Option.{Option, none, some}
 use Prim.Native.Char.{code}
 use Prim.Native.String.{String, [] as []ˢ, ◌∷◌ as ◌∷ˢ◌}
@@ -11,6 +11,9 @@ use Rattle.layout.specs.declared.Kind.TheVariants.{S1000, S3000}
 use Rattle.layout.specs.declared.Density.TheVariants.{High}
 use Rattle.record.specs.Record.{Answer, accepted, entry, refused}
 use Rattle.laws.specs.Refusals.{number_of, place_of}
+use Rattle.rules.specs.declared.Accepted.{Accepted}
+use Rattle.rules.specs.Check.{Checked, answer_of}
+use Rattle.listing.specs.declared.Reason.{Reason}
 
 -- A text's bytes.
 abbrev pub ascii : String → List ℕ
@@ -36,11 +39,14 @@ or_refused none refused given = given
 or_refused (some r) refused given = refused r
 
 -- A refusal's text by its number and its place, whichever they are.
-abbrev pub refusal_text : ℕ → ℕ → List ℕ
-refusal_text number place = numbered "refused " number ++ numbered " at " place
+abbrev pub refusal_text : Reason → List ℕ
+refusal_text r = numbered "refused " r.number ++ numbered " at " r.place
+
+abbrev pub reason_of : Refusal → Reason
+reason_of r = record { number = number_of r; place = place_of r }
 
 abbrev pub refused_text : Refusal → List ℕ
-refused_text r = refusal_text (number_of r) (place_of r)
+refused_text r = refusal_text (reason_of r)
 
 abbrev pub density_word : ℕ → List ℕ
 density_word density = pick (eqb density 0) (ascii " low") (ascii " high")
@@ -51,6 +57,22 @@ accepted_text a = numbered "S" a.kind ++ density_word a.density ++ numbered " fi
 -- The check's answer.
 abbrev pub check_text : Answer → List ℕ
 check_text a = or_refused a.refusal refused_text (accepted_text a)
+
+-- The same of an answer whose refusal is told by any number and place; of one that the check gives it is the check's text (`told_is`).
+abbrev pub Told : Type 0
+Told = Result Accepted Reason
+
+abbrev pub told_text : Told → List ℕ
+told_text (Ok disk) = accepted_text (answer_of (Ok disk))
+told_text (Err r) = refusal_text r
+
+abbrev pub told_by : Checked → Told
+told_by (Ok disk) = Ok disk
+told_by (Err r) = Err (reason_of r)
+
+pub told_is : (c : Checked) → told_text (told_by c) ≡ check_text (answer_of c)
+told_is (Ok disk) = refl
+told_is (Err r) = refl
 
 -- A type's letter: the byte itself, but on S3000 disks, where a type is a capital plus 128, the capital (document 02, request five).
 abbrev pub letter_of : ℕ → ℕ

@@ -1,16 +1,14 @@
 // The listing program (document 01): reads an image on standard input, and writes what it holds or why it is refused.
 // `lines` makes all of the text in a lent output, where a promise says what it is; `run` alone reads and writes.
 // The functions that put a part of it say which text they put, and where the next one goes; outside, only `cases` calls them.
-// Output and index stay apart: the public ones of them (`put_refusal`, `put_refused`, `put_checked`, `put_file`) promise `Puts` of the index given
-// and of the next.
+// Output and index stay apart: the public ones of them (`put_refused`, `put_checked`, `put_file`) promise `Puts` of the index given and of the next.
 #![tactic(auto)]
 
 ghost use Rattle.std.specs.Prelude.{◌≡◌, ◌++◌, ◌+◌, ◌≤◌, ◌<◌, length, IfOk, OnErr};
 ghost use Rattle.io.specs.Counts.{IsPrefixLen};
 ghost use Rattle.laws.specs.Reader.{bytes};
 ghost use Rattle.record.specs.Record.{density_number, entry};
-ghost use Rattle.rules.specs.Check.{answer_of};
-ghost use Rattle.listing.specs.Listing.{decimal, density_word, refusal_text, refused_text, check_text, letter_of, file_line, slot_line, slot_lines};
+ghost use Rattle.listing.specs.Listing.{decimal, density_word, refusal_text, told_by, told_text, letter_of, file_line, slot_line, slot_lines};
 ghost use Rattle.listing.specs.Lines.{slot_answer, lines_of};
 ghost use Rattle.listing.specs.Puts.{Puts, Fills};
 
@@ -84,21 +82,44 @@ fn put_number(word: &[u8], number: usize, out: &mut [u8; 24576], at: usize) -> u
     put(&digits[0..count], out, next)
 }
 
-// A refusal that is known by its number and its place alone, as C's results tell it, without its line's end. Both may be any.
-pub fn put_refusal(number: u32, place: usize, out: &mut [u8; 24576], at: usize) -> usize
-    requires { at ≤ 24576 }
-    ensures { Puts 52 (refusal_text number place) at out.old out.new result }
+// A refusal as its line tells it, by number and place. Both may be any, as in what C gets.
+#[derive(Clone, Copy, Debug, PartialEq, Eq)]
+pub struct Reason {
+    pub number: u32,
+    pub place: usize,
+}
+
+impl From<Refusal> for Reason {
+    ghost use Rattle.std.specs.Prelude.{◌≡◌};
+    ghost use Rattle.listing.specs.Listing.{reason_of};
+
+    ghost from_gives = { λ refusal reason. reason ≡ reason_of refusal };
+
+    fn from(refusal: Refusal) -> Reason {
+        Reason {
+            number: refusal.number(),
+            place: refusal.place(),
+        }
+    }
+}
+
+// The check's answer, with its refusal by number and place.
+pub fn told(checked: Result<Accepted, Refusal>) -> Result<Accepted, Reason>
+    ensures { result ≡ told_by checked }
 {
-    let next = put_number(b"refused ", number as usize, out, at);
-    put_number(b" at ", place, out, next)
+    match checked {
+        Ok(disk) => Ok(disk),
+        Err(refusal) => Err(Reason::from(refusal)),
+    }
 }
 
 // A refusal, without its line's end.
-pub fn put_refused(refusal: Refusal, out: &mut [u8; 24576], at: usize) -> usize
+pub fn put_refused(refusal: Reason, out: &mut [u8; 24576], at: usize) -> usize
     requires { at ≤ 24576 }
-    ensures { Puts 52 (refused_text refusal) at out.old out.new result }
+    ensures { Puts 52 (refusal_text refusal) at out.old out.new result }
 {
-    put_refusal(refusal.number(), refusal.place(), out, at)
+    let next = put_number(b"refused ", refusal.number as usize, out, at);
+    put_number(b" at ", refusal.place, out, next)
 }
 
 fn put_density(density: layout::Density, out: &mut [u8; 24576], at: usize) -> usize
@@ -112,9 +133,9 @@ fn put_density(density: layout::Density, out: &mut [u8; 24576], at: usize) -> us
 }
 
 // The check's answer, without its line's end.
-pub fn put_checked(checked: Result<Accepted, Refusal>, out: &mut [u8; 24576], at: usize) -> usize
+pub fn put_checked(checked: Result<Accepted, Reason>, out: &mut [u8; 24576], at: usize) -> usize
     requires { at ≤ 24576 }
-    ensures { Puts 79 (check_text (answer_of checked)) at out.old out.new result }
+    ensures { Puts 79 (told_text checked) at out.old out.new result }
 {
     match checked {
         Ok(disk) => {
@@ -184,7 +205,7 @@ pub fn lines(head: &[u8], length: usize, out: &mut [u8; 24576]) -> usize
     ensures { Fills (lines_of head.now length) out.old out.new result }
 {
     let checked = disk::check_head(head, length);
-    let next = put_checked(checked, out, 0);
+    let next = put_checked(told(checked), out, 0);
     let next = put(b"\n", out, next);
     let Ok(accepted) = checked else {
         return next;
